@@ -1,0 +1,9 @@
+pub mod Tests
+pub mod Parts
+pub mod Rows
+pub mod Causal
+pub mod Outlook
+pub mod Stretches
+pub mod Blocks
+pub mod Runs
+pub mod Words

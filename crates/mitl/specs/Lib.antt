@@ -1,0 +1,9 @@
+pub mod Windows
+pub mod Memory
+pub mod Formulas
+pub mod Rows
+pub mod Outlook
+pub mod Blocks
+pub mod Runs
+pub mod Cases
+pub mod Laws
