@@ -9,8 +9,10 @@ use native.Mathlib.Omega.{arith}
 use Rattle.std.proofs.shelf.Tests.{cases-lt}
 use lib.ListN.{getD, length, replicate, length-replicate, length-append}
 use Rattle.std.proofs.shelf.Lists.{getD-append-add, getD-replicate}
+use Rattle.mitl.specs.declared.Row.{Row}
+use Rattle.mitl.specs.declared.Row.the-variants.{Input, Not, And, Or, Once, Always, Since, Rule}
 use Rattle.mitl.specs.Formulas.{Formula, input, neg, both, either, once, always, since, sat, bit}
-use Rattle.mitl.specs.Rows.{Row, P, N, A, O, D, B, S, R, Earlier, is-timed, row-at, Chained, formula-at, formula-of, formulas, read}
+use Rattle.mitl.specs.Rows.{Earlier, is-timed, row-at, Chained, formula-at, formula-of, formulas, read}
 use Rattle.mitl.specs.Outlook.{outlook, looked}
 use Rattle.mitl.specs.Memory.{Meaning, took, cleared, taken, ahead}
 use Rattle.mitl.specs.Blocks.{row-ahead, row-after, advanced, Proper}
@@ -30,39 +32,39 @@ module _ (fs : List Formula) (h : List ℕ) (n w : ℕ) (v : ℕ → Bool) (k : 
   Steady d = (l : ℕ) → l < k → (u : ℕ) → length h ≤ u → u ≤ length h + d → sat (formula-at fs l) (h ++ block) u ≡ v l
 
   row-ahead-is : (r : Row) → Earlier k r → Proper r → (d : ℕ) → d < n → Steady d → sat (formula-of fs r) (h ++ block) (length h + d) ≡ row-ahead r (outlook (formula-of fs r) h) v w d
-  row-ahead-is (P i) e p d lt steady = ap (bit i) (getD-append-add h block d 0 ∙ getD-replicate n d w 0 lt)
-  row-ahead-is (N l) e p d lt steady = ap not (steady l e (length h + d) (omega arith) (omega arith))
-  row-ahead-is (A l r) e p d lt steady = ap₂ _&&_ (steady l (e .0) (length h + d) (omega arith) (omega arith)) (steady r (e .1) (length h + d) (omega arith) (omega arith))
-  row-ahead-is (O l r) e p d lt steady = ap₂ _||_ (steady l (e .0) (length h + d) (omega arith) (omega arith)) (steady r (e .1) (length h + d) (omega arith) (omega arith))
-  row-ahead-is (D l a b) e p d lt steady = once-ahead h block (formula-at fs l) a b (v l) (omega arith) d (steady l e)
-  row-ahead-is (B l a b) e p d lt steady =
+  row-ahead-is (Input i) e p d lt steady = ap (bit i) (getD-append-add h block d 0 ∙ getD-replicate n d w 0 lt)
+  row-ahead-is (Not l) e p d lt steady = ap not (steady l e (length h + d) (omega arith) (omega arith))
+  row-ahead-is (And l r) e p d lt steady = ap₂ _&&_ (steady l (e .0) (length h + d) (omega arith) (omega arith)) (steady r (e .1) (length h + d) (omega arith) (omega arith))
+  row-ahead-is (Or l r) e p d lt steady = ap₂ _||_ (steady l (e .0) (length h + d) (omega arith) (omega arith)) (steady r (e .1) (length h + d) (omega arith) (omega arith))
+  row-ahead-is (Once l a b) e p d lt steady = once-ahead h block (formula-at fs l) a b (v l) (omega arith) d (steady l e)
+  row-ahead-is (Always l a b) e p d lt steady =
       always-ahead h block (formula-at fs l) a b (not (v l)) (omega arith) d (λ u low high. steady l e u low high ∙ not-not (v l))
-  row-ahead-is (S l r a b) e p d lt steady = held (v l) (steady l (e .0))
+  row-ahead-is (Since l r a b) e p d lt steady = held (v l) (steady l (e .0))
     where
       held : (x : Bool) → ((u : ℕ) → length h ≤ u → u ≤ length h + d → sat (formula-at fs l) (h ++ block) u ≡ x)
           → sat (since (formula-at fs l) (formula-at fs r) a b) (h ++ block) (length h + d) ≡ (x && ahead a (v r) (outlook (since (formula-at fs l) (formula-at fs r) a b) h) d)
       held true on = since-ahead h block (formula-at fs l) (formula-at fs r) a b (v r) (omega arith) d on (steady r (e .1))
       held false off = since-off (formula-at fs l) (formula-at fs r) a b (h ++ block) (length h + d) (off (length h + d) (omega arith) (omega arith))
-  row-ahead-is (R i l) e p d lt steady = steady l e (length h + d) (omega arith) (omega arith)
+  row-ahead-is (Rule i l) e p d lt steady = steady l e (length h + d) (omega arith) (omega arith)
 
   -- the rows before k keep the readings v over the block
   abbrev Steady-all : Type 0
   Steady-all = (l : ℕ) → l < k → (u : ℕ) → length h ≤ u → u < length h + n → sat (formula-at fs l) (h ++ block) u ≡ v l
 
   row-after-is : (r : Row) → is-timed r ≡ true → Earlier k r → 0 < n → Steady-all → (d : ℕ) → outlook (formula-of fs r) (h ++ block) d ≡ row-after r (outlook (formula-of fs r) h) v n d
-  row-after-is (P i) t e pos steady d = absurd (false≢true t)
-  row-after-is (N l) t e pos steady d = absurd (false≢true t)
-  row-after-is (A l r) t e pos steady d = absurd (false≢true t)
-  row-after-is (O l r) t e pos steady d = absurd (false≢true t)
-  row-after-is (D l a b) t e pos steady d =
+  row-after-is (Input i) t e pos steady d = absurd (false≢true t)
+  row-after-is (Not l) t e pos steady d = absurd (false≢true t)
+  row-after-is (And l r) t e pos steady d = absurd (false≢true t)
+  row-after-is (Or l r) t e pos steady d = absurd (false≢true t)
+  row-after-is (Once l a b) t e pos steady d =
       let size = length-replicate n w in
       let took = once-takes h block (formula-at fs l) a b (v l) (λ u new. steady l e u (new .0) (omega arith)) d in
       rw length-replicate at took
-  row-after-is (B l a b) t e pos steady d =
+  row-after-is (Always l a b) t e pos steady d =
       let size = length-replicate n w in
       let took = always-takes h block (formula-at fs l) a b (not (v l)) (λ u new. steady l e u (new .0) (omega arith) ∙ not-not (v l)) d in
       rw length-replicate at took
-  row-after-is (S l r a b) t e pos steady d = held (v l) (steady l (e .0))
+  row-after-is (Since l r a b) t e pos steady d = held (v l) (steady l (e .0))
     where
       size : length block ≡ n
       size = length-replicate n w
@@ -74,7 +76,7 @@ module _ (fs : List Formula) (h : List ℕ) (n w : ℕ) (v : ℕ → Bool) (k : 
           at (since-takes h block (formula-at fs l) (formula-at fs r) a b (v r) (λ u new. on u (new .0) (omega (arith, size))) (λ u new. steady r (e .1) u (new .0) (omega (arith, size))) d)
       held false off =
           since-clears (formula-at fs l) (formula-at fs r) a b (h ++ block) (length h + n - 1) (omega (arith, length-append h block, size)) (off (length h + n - 1) (omega arith) (omega arith)) d
-  row-after-is (R i l) t e pos steady d = absurd (false≢true t)
+  row-after-is (Rule i l) t e pos steady d = absurd (false≢true t)
 
 module _ (rows : List Row) (chained : Chained rows) (h : List ℕ) (n w : ℕ) (v : ℕ → Bool) (k : ℕ) (within : k < length rows) where
   pub read-ahead : Proper (row-at rows k) → (d : ℕ) → d < n
@@ -129,13 +131,13 @@ module _ (rows : List Row) (chained : Chained rows) (h : List ℕ) (n w : ℕ) (
     where
       go : (r : Row) → is-timed r ≡ true → ((d : ℕ) → outlook (formula-of (formulas rows) r) (h ++ replicate n w) d ≡ row-after r (outlook (formula-of (formulas rows) r) h) v n d)
           → looked (formula-of (formulas rows) r) (h ++ replicate n w) ≡ advanced r v n (looked (formula-of (formulas rows) r) h)
-      go (P i) t e = absurd (false≢true t)
-      go (N l) t e = absurd (false≢true t)
-      go (A l r) t e = absurd (false≢true t)
-      go (O l r) t e = absurd (false≢true t)
-      go (D l a b) t e = meaning-path a b a b _ _ refl refl e
-      go (B l a b) t e = meaning-path a b a b _ _ refl refl e
-      go (S l r a b) t e = held (v l) e
+      go (Input i) t e = absurd (false≢true t)
+      go (Not l) t e = absurd (false≢true t)
+      go (And l r) t e = absurd (false≢true t)
+      go (Or l r) t e = absurd (false≢true t)
+      go (Once l a b) t e = meaning-path a b a b _ _ refl refl e
+      go (Always l a b) t e = meaning-path a b a b _ _ refl refl e
+      go (Since l r a b) t e = held (v l) e
         where
           held : (x : Bool) → ((d : ℕ) → outlook (since (formula-at (formulas rows) l) (formula-at (formulas rows) r) a b) (h ++ replicate n w) d
               ≡ (x && taken a b (v r) n (outlook (since (formula-at (formulas rows) l) (formula-at (formulas rows) r) a b) h) d))
@@ -143,4 +145,4 @@ module _ (rows : List Row) (chained : Chained rows) (h : List ℕ) (n w : ℕ) (
               ≡ cond x (took (v r) n (looked (since (formula-at (formulas rows) l) (formula-at (formulas rows) r) a b) h)) (cleared (looked (since (formula-at (formulas rows) l) (formula-at (formulas rows) r) a b) h))
           held true e′ = meaning-path a b a b _ _ refl refl e′
           held false e′ = meaning-path a b a b _ _ refl refl e′
-      go (R i l) t e = absurd (false≢true t)
+      go (Rule i l) t e = absurd (false≢true t)

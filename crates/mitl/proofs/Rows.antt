@@ -12,8 +12,10 @@ use Rattle.std.specs.Orderings.{Decides}
 use Rattle.std.proofs.shelf.Lists.{getD-append-left, getD-at, append-assoc, map-push}
 use Rattle.std.proofs.shelf.Tests.{cases-lt, not-true, not-from-false, and-parts, and-from, or-cases, or-left, or-right}
 use Rattle.std.proofs.shelf.Ways.{same-from-decides, decides-like, decides-at, decides-not, decides-and, decides-or}
+use Rattle.mitl.specs.declared.Row.{Row}
+use Rattle.mitl.specs.declared.Row.the-variants.{Input, Not, And, Or, Once, Always, Since, Rule}
 use Rattle.mitl.specs.Formulas.{Formula, input, neg, both, either, once, always, since, Sat, sat, bit, scaled, parts}
-use Rattle.mitl.specs.Rows.{Row, P, N, A, O, D, B, S, R, Earlier, row-at, Chained, Says, Reads, formula-at, formula-of, along, formulas, read, word, is-rule, rule, verdict, scaled-row, scaled-rows}
+use Rattle.mitl.specs.Rows.{Earlier, row-at, Chained, Says, Reads, formula-at, formula-of, along, formulas, read, word, is-rule, rule, verdict, scaled-row, scaled-rows}
 use Rattle.mitl.proofs.Tests.{decides-sat}
 use Rattle.mitl.proofs.Parts.{sat-parts}
 use Rattle.mitl.specs.Windows.{Window, some-below}
@@ -25,14 +27,14 @@ along-before (r ∷ rows) fs k lt =
     along-before rows (fs ++ (formula-of fs r ∷ [])) k (simp length-append (omega arith)) ∙ getD-append-left fs (formula-of fs r ∷ []) (input 0) k lt
 
 formula-of-same : (fs gs : List Formula) (k : ℕ) → ((l : ℕ) → l < k → formula-at fs l ≡ formula-at gs l) → (r : Row) → Earlier k r → formula-of fs r ≡ formula-of gs r
-formula-of-same fs gs k same (P i) e = refl
-formula-of-same fs gs k same (N l) e = ap neg (same l e)
-formula-of-same fs gs k same (A l r) e = ap₂ both (same l (e .0)) (same r (e .1))
-formula-of-same fs gs k same (O l r) e = ap₂ either (same l (e .0)) (same r (e .1))
-formula-of-same fs gs k same (D l a b) e = ap (λ f. once f a b) (same l e)
-formula-of-same fs gs k same (B l a b) e = ap (λ f. always f a b) (same l e)
-formula-of-same fs gs k same (S l r a b) e = ap₂ (λ f g. since f g a b) (same l (e .0)) (same r (e .1))
-formula-of-same fs gs k same (R i l) e = same l e
+formula-of-same fs gs k same (Input i) e = refl
+formula-of-same fs gs k same (Not l) e = ap neg (same l e)
+formula-of-same fs gs k same (And l r) e = ap₂ both (same l (e .0)) (same r (e .1))
+formula-of-same fs gs k same (Or l r) e = ap₂ either (same l (e .0)) (same r (e .1))
+formula-of-same fs gs k same (Once l a b) e = ap (λ f. once f a b) (same l e)
+formula-of-same fs gs k same (Always l a b) e = ap (λ f. always f a b) (same l e)
+formula-of-same fs gs k same (Since l r a b) e = ap₂ (λ f g. since f g a b) (same l (e .0)) (same r (e .1))
+formula-of-same fs gs k same (Rule i l) e = same l e
 
 along-at : (rows : List Row) (fs : List Formula) → ((j : ℕ) → j < length rows → Earlier (length fs + j) (row-at rows j))
     → (j : ℕ) → j < length rows → formula-at (along fs rows) (length fs + j) ≡ formula-of (along fs rows) (row-at rows j)
@@ -55,40 +57,40 @@ formulas-at rows chained k lt =
     ap (formula-at (formulas rows)) (sym (zero-add k)) ∙ along-at rows [] (λ j less. subst (λ n. Earlier n (row-at rows j)) (sym (zero-add j)) (chained j less)) k lt
 
 says : (fs : List Formula) (h : List ℕ) (t : ℕ) (r : Row) → Decides (sat (formula-of fs r) h t) (Says r h (λ k u. sat (formula-at fs k) h u) t)
-says fs h t (P i) = (λ e. e, λ e. e)
-says fs h t (N l) = (not-true _, not-from-false _)
-says fs h t (A l r) = (and-parts _ _, λ e. and-from _ _ (e .0) (e .1))
-says fs h t (O l r) = (or-cases _ _, elim [ inl e ↦ or-left _ _ e | inr e ↦ or-right _ _ e ])
-says fs h t (D l a b) =
+says fs h t (Input i) = (λ e. e, λ e. e)
+says fs h t (Not l) = (not-true _, not-from-false _)
+says fs h t (And l r) = (and-parts _ _, λ e. and-from _ _ (e .0) (e .1))
+says fs h t (Or l r) = (or-cases _ _, elim [ inl e ↦ or-left _ _ e | inr e ↦ or-right _ _ e ])
+says fs h t (Once l a b) =
     let at = decides-sat (formula-at fs l) h in
     decides-like _ (λ r. (r .0, r .1, at (r .0) .1 (r .2))) (λ r. (r .0, r .1, at (r .0) .0 (r .2))) (decides-sat (once (formula-at fs l) a b) h t)
-says fs h t (B l a b) =
+says fs h t (Always l a b) =
     let at = decides-sat (formula-at fs l) h in
     decides-like _ (λ r u w. at u .1 (r u w)) (λ r u w. at u .0 (r u w)) (decides-sat (always (formula-at fs l) a b) h t)
-says fs h t (S l r a b) =
+says fs h t (Since l r a b) =
     let at = decides-sat (formula-at fs l) h in
     let at′ = decides-sat (formula-at fs r) h in
     decides-like _
     (λ r. (r .0, r .1, at′ (r .0) .1 (r .2), λ s low high. at s .1 (r .3 s low high)))
     (λ r. (r .0, r .1, at′ (r .0) .0 (r .2), λ s low high. at s .0 (r .3 s low high)))
     (decides-sat (since (formula-at fs l) (formula-at fs r) a b) h t)
-says fs h t (R i l) = (λ e. e, λ e. e)
+says fs h t (Rule i l) = (λ e. e, λ e. e)
 
 pub read-reads : (rows : List Row) (h : List ℕ) → Chained rows → Reads rows h (read rows h)
 read-reads rows h chained k lt t = decides-at _ _ (ap (λ f. sat f h t) (formulas-at rows chained k lt)) (says (formulas rows) h t (row-at rows k))
 
 -- readings that agree before place k agree on what the row at k says
 Says-same : (k : ℕ) (h : List ℕ) (x y : ℕ → ℕ → Bool) → ((l : ℕ) → l < k → (u : ℕ) → x l u ≡ y l u) → (r : Row) → Earlier k r → (t : ℕ) → Says r h x t → Says r h y t
-Says-same k h x y same (P i) e t s = s
-Says-same k h x y same (N l) e t s = sym (same l e t) ∙ s
-Says-same k h x y same (A l r) e t s = (sym (same l (e .0) t) ∙ s .0, sym (same r (e .1) t) ∙ s .1)
-Says-same k h x y same (O l r) e t (inl s) = inl (sym (same l (e .0) t) ∙ s)
-Says-same k h x y same (O l r) e t (inr s) = inr (sym (same r (e .1) t) ∙ s)
-Says-same k h x y same (D l a b) e t s = (s .0, s .1, sym (same l e (s .0)) ∙ s .2)
-Says-same k h x y same (B l a b) e t s = λ u w. sym (same l e u) ∙ s u w
-Says-same k h x y same (S l r a b) e t s =
+Says-same k h x y same (Input i) e t s = s
+Says-same k h x y same (Not l) e t s = sym (same l e t) ∙ s
+Says-same k h x y same (And l r) e t s = (sym (same l (e .0) t) ∙ s .0, sym (same r (e .1) t) ∙ s .1)
+Says-same k h x y same (Or l r) e t (inl s) = inl (sym (same l (e .0) t) ∙ s)
+Says-same k h x y same (Or l r) e t (inr s) = inr (sym (same r (e .1) t) ∙ s)
+Says-same k h x y same (Once l a b) e t s = (s .0, s .1, sym (same l e (s .0)) ∙ s .2)
+Says-same k h x y same (Always l a b) e t s = λ u w. sym (same l e u) ∙ s u w
+Says-same k h x y same (Since l r a b) e t s =
     (s .0, s .1, sym (same r (e .1) (s .0)) ∙ s .2, λ v low high. sym (same l (e .0) v) ∙ s .3 v low high)
-Says-same k h x y same (R i l) e t s = sym (same l e t) ∙ s
+Says-same k h x y same (Rule i l) e t s = sym (same l e t) ∙ s
 
 module _ (rows : List Row) (h : List ℕ) (chained : Chained rows) (x y : ℕ → ℕ → Bool) (first : Reads rows h x) (second : Reads rows h y) where
   same-below : (n : ℕ) → n ≤ length rows → (k : ℕ) → k < n → (t : ℕ) → x k t ≡ y k t
@@ -117,15 +119,15 @@ getD-mapped f d (x ∷ xs) zero = refl
 getD-mapped f d (x ∷ xs) (suc k) = getD-mapped f d xs k
 
 formula-of-scaled : (q : ℕ) (fs : List Formula) (r : Row) → formula-of (map (scaled q) fs) (scaled-row q r) ≡ scaled q (formula-of fs r)
-formula-of-scaled q fs (P i) = refl
-formula-of-scaled q fs (N l) = ap neg (getD-mapped (scaled q) (input 0) fs l)
-formula-of-scaled q fs (A l r) = ap₂ both (getD-mapped (scaled q) (input 0) fs l) (getD-mapped (scaled q) (input 0) fs r)
-formula-of-scaled q fs (O l r) = ap₂ either (getD-mapped (scaled q) (input 0) fs l) (getD-mapped (scaled q) (input 0) fs r)
-formula-of-scaled q fs (D l a b) = ap (λ f. once f (q * a) (q * b)) (getD-mapped (scaled q) (input 0) fs l)
-formula-of-scaled q fs (B l a b) = ap (λ f. always f (q * a) (q * b)) (getD-mapped (scaled q) (input 0) fs l)
-formula-of-scaled q fs (S l r a b) =
+formula-of-scaled q fs (Input i) = refl
+formula-of-scaled q fs (Not l) = ap neg (getD-mapped (scaled q) (input 0) fs l)
+formula-of-scaled q fs (And l r) = ap₂ both (getD-mapped (scaled q) (input 0) fs l) (getD-mapped (scaled q) (input 0) fs r)
+formula-of-scaled q fs (Or l r) = ap₂ either (getD-mapped (scaled q) (input 0) fs l) (getD-mapped (scaled q) (input 0) fs r)
+formula-of-scaled q fs (Once l a b) = ap (λ f. once f (q * a) (q * b)) (getD-mapped (scaled q) (input 0) fs l)
+formula-of-scaled q fs (Always l a b) = ap (λ f. always f (q * a) (q * b)) (getD-mapped (scaled q) (input 0) fs l)
+formula-of-scaled q fs (Since l r a b) =
     ap₂ (λ f g. since f g (q * a) (q * b)) (getD-mapped (scaled q) (input 0) fs l) (getD-mapped (scaled q) (input 0) fs r)
-formula-of-scaled q fs (R i l) = getD-mapped (scaled q) (input 0) fs l
+formula-of-scaled q fs (Rule i l) = getD-mapped (scaled q) (input 0) fs l
 
 along-scaled : (q : ℕ) (rows : List Row) (fs : List Formula) → along (map (scaled q) fs) (scaled-rows q rows) ≡ map (scaled q) (along fs rows)
 along-scaled q [] fs = refl
@@ -135,14 +137,14 @@ along-scaled q (r ∷ rows) fs =
     ∙ along-scaled q rows (fs ++ (formula-of fs r ∷ []))
 
 is-rule-scaled : (q i : ℕ) (r : Row) → is-rule i (scaled-row q r) ≡ is-rule i r
-is-rule-scaled q i (P j) = refl
-is-rule-scaled q i (N l) = refl
-is-rule-scaled q i (A l r) = refl
-is-rule-scaled q i (O l r) = refl
-is-rule-scaled q i (D l a b) = refl
-is-rule-scaled q i (B l a b) = refl
-is-rule-scaled q i (S l r a b) = refl
-is-rule-scaled q i (R j l) = refl
+is-rule-scaled q i (Input j) = refl
+is-rule-scaled q i (Not l) = refl
+is-rule-scaled q i (And l r) = refl
+is-rule-scaled q i (Or l r) = refl
+is-rule-scaled q i (Once l a b) = refl
+is-rule-scaled q i (Always l a b) = refl
+is-rule-scaled q i (Since l r a b) = refl
+is-rule-scaled q i (Rule j l) = refl
 
 module _ (q : ℕ) (pos : 0 < q) (rows : List Row) (h : List ℕ) (p : ℕ) where
   pub read-parts : (k : ℕ) → read (scaled-rows q rows) (parts q h) k p ≡ read rows h k (p / q)
@@ -154,7 +156,7 @@ module _ (q : ℕ) (pos : 0 < q) (rows : List Row) (h : List ℕ) (p : ℕ) wher
   rule-parts : (i : ℕ) → rule (scaled-rows q rows) (parts q h) p i ≡ rule rows h (p / q) i
   rule-parts i =
       ap₂ some-below
-      (fun-ext (λ k. ap₂ _&&_ (ap (is-rule i) (getD-mapped (scaled-row q) (P 0) rows k) ∙ is-rule-scaled q i (row-at rows k)) (read-parts k)))
+      (fun-ext (λ k. ap₂ _&&_ (ap (is-rule i) (getD-mapped (scaled-row q) (Input 0) rows k) ∙ is-rule-scaled q i (row-at rows k)) (read-parts k)))
       (length-map rows (scaled-row q))
 
   pub verdict-parts : verdict (scaled-rows q rows) (parts q h) p ≡ verdict rows h (p / q)

@@ -5,8 +5,9 @@ use mathlib.Core.List.{List, _++_}
 use Prim.Native.Nat.{ℕ, _+_, _*_, _/_, _<_, _≤_}
 use lib.ListN.{length, replicate}
 use Rattle.std.specs.Orderings.{Decides}
+use Rattle.mitl.specs.declared.Row.{Row}
 use Rattle.mitl.specs.Formulas.{Formula, Sat, sat, scaled, parts}
-use Rattle.mitl.specs.Rows.{Row, is-timed, row-at, Chained, Reads, read, formula-at, formulas, rule, verdict, scaled-rows}
+use Rattle.mitl.specs.Rows.{is-timed, row-at, Chained, Reads, read, formula-at, formulas, rule, verdict, scaled-rows}
 use Rattle.mitl.specs.Formulas.{bit}
 use Rattle.mitl.specs.Outlook.{Marked, outlook, from, to}
 use Rattle.mitl.specs.Blocks.{row-ahead, row-after, Proper}

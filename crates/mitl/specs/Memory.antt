@@ -46,10 +46,6 @@ abbrev pub Lasts : (ℕ → Bool) → Bool → Option ℕ → Type 0
 Lasts f r None = (d : ℕ) → f d ≡ r
 Lasts f r (Some n) = (0 < n) × ((d : ℕ) → d < n → f d ≡ r) × (f n ≡ not r)
 
--- the verdict of the next tick, and how long it lasts if the operand stays v
-abbrev pub Foretells : Meaning → Bool → Bool → Option ℕ → Type 0
-Foretells m v r n = Lasts (ahead (m .a) v (m .mark)) r n
-
 -- The unbroken stretches of yes among the first n marks: one for each mark that is yes and whose follower is no.
 abbrev pub stretches : (ℕ → Bool) → ℕ → ℕ
 stretches mark zero = 0

@@ -7,44 +7,35 @@ use Prim.Native.Nat.{ℕ, zero, suc, _+_, _*_, _^_, _<_, _≤_}
 use lib.Dec.{eqb}
 use lib.ListN.{getD, length}
 use Rattle.std.specs.Orderings.{Decides}
+use Rattle.mitl.specs.declared.Row.{Row}
+use Rattle.mitl.specs.declared.Row.the-variants.{Input, Not, And, Or, Once, Always, Since, Rule}
 use Rattle.mitl.specs.Formulas.{Formula, input, neg, both, either, once, always, since, bit, sat}
 use Rattle.mitl.specs.Windows.{Window, some-below}
 
--- A row, by its letter. An operand is the place, from 0, of an earlier row of the chain.
-pub data Row : Type 0 where
-  P : (number : ℕ) → Row
-  N : (left : ℕ) → Row
-  A : (left right : ℕ) → Row
-  O : (left right : ℕ) → Row
-  D : (left a b : ℕ) → Row
-  B : (left a b : ℕ) → Row
-  S : (left right a b : ℕ) → Row
-  R : (number left : ℕ) → Row
-
 -- the timed rows
 abbrev pub is-timed : Row → Bool
-is-timed (P i) = false
-is-timed (N l) = false
-is-timed (A l r) = false
-is-timed (O l r) = false
-is-timed (D l a b) = true
-is-timed (B l a b) = true
-is-timed (S l r a b) = true
-is-timed (R i l) = false
+is-timed (Input i) = false
+is-timed (Not l) = false
+is-timed (And l r) = false
+is-timed (Or l r) = false
+is-timed (Once l a b) = true
+is-timed (Always l a b) = true
+is-timed (Since l r a b) = true
+is-timed (Rule i l) = false
 
 -- every operand is a row earlier than place k
 abbrev pub Earlier : ℕ → Row → Type 0
-Earlier k (P i) = Unit {0}
-Earlier k (N l) = l < k
-Earlier k (A l r) = (l < k) × (r < k)
-Earlier k (O l r) = (l < k) × (r < k)
-Earlier k (D l a b) = l < k
-Earlier k (B l a b) = l < k
-Earlier k (S l r a b) = (l < k) × (r < k)
-Earlier k (R i l) = l < k
+Earlier k (Input i) = Unit {0}
+Earlier k (Not l) = l < k
+Earlier k (And l r) = (l < k) × (r < k)
+Earlier k (Or l r) = (l < k) × (r < k)
+Earlier k (Once l a b) = l < k
+Earlier k (Always l a b) = l < k
+Earlier k (Since l r a b) = (l < k) × (r < k)
+Earlier k (Rule i l) = l < k
 
 abbrev pub row-at : List Row → ℕ → Row
-row-at rows k = getD rows k (P 0)
+row-at rows k = getD rows k (Input 0)
 
 -- how many timed rows stand before place p
 abbrev pub timed-before : List Row → ℕ → ℕ
@@ -59,14 +50,14 @@ Chained rows = (k : ℕ) → k < length rows → Earlier k (row-at rows k)
 
 -- What a row says at tick t of the history h, where `reading k u` is how the row at place k is read at tick u.
 abbrev pub Says : Row → List ℕ → (ℕ → ℕ → Bool) → ℕ → Type 0
-Says (P i) h reading t = bit i (getD h t 0) ≡ true
-Says (N l) h reading t = reading l t ≡ false
-Says (A l r) h reading t = (reading l t ≡ true) × (reading r t ≡ true)
-Says (O l r) h reading t = (reading l t ≡ true) ⊎ (reading r t ≡ true)
-Says (D l a b) h reading t = (u : ℕ) × Window a b t u × (reading l u ≡ true)
-Says (B l a b) h reading t = (u : ℕ) → Window a b t u → reading l u ≡ true
-Says (S l r a b) h reading t = (u : ℕ) × Window a b t u × (reading r u ≡ true) × ((s : ℕ) → u ≤ s → s ≤ t → reading l s ≡ true)
-Says (R i l) h reading t = reading l t ≡ true
+Says (Input i) h reading t = bit i (getD h t 0) ≡ true
+Says (Not l) h reading t = reading l t ≡ false
+Says (And l r) h reading t = (reading l t ≡ true) × (reading r t ≡ true)
+Says (Or l r) h reading t = (reading l t ≡ true) ⊎ (reading r t ≡ true)
+Says (Once l a b) h reading t = (u : ℕ) × Window a b t u × (reading l u ≡ true)
+Says (Always l a b) h reading t = (u : ℕ) → Window a b t u → reading l u ≡ true
+Says (Since l r a b) h reading t = (u : ℕ) × Window a b t u × (reading r u ≡ true) × ((s : ℕ) → u ≤ s → s ≤ t → reading l s ≡ true)
+Says (Rule i l) h reading t = reading l t ≡ true
 
 -- `reading` is how the rows are read over h
 abbrev pub Reads : List Row → List ℕ → (ℕ → ℕ → Bool) → Type 0
@@ -77,14 +68,14 @@ abbrev pub formula-at : List Formula → ℕ → Formula
 formula-at fs k = getD fs k (input 0)
 
 abbrev pub formula-of : List Formula → Row → Formula
-formula-of fs (P i) = input i
-formula-of fs (N l) = neg (formula-at fs l)
-formula-of fs (A l r) = both (formula-at fs l) (formula-at fs r)
-formula-of fs (O l r) = either (formula-at fs l) (formula-at fs r)
-formula-of fs (D l a b) = once (formula-at fs l) a b
-formula-of fs (B l a b) = always (formula-at fs l) a b
-formula-of fs (S l r a b) = since (formula-at fs l) (formula-at fs r) a b
-formula-of fs (R i l) = formula-at fs l
+formula-of fs (Input i) = input i
+formula-of fs (Not l) = neg (formula-at fs l)
+formula-of fs (And l r) = both (formula-at fs l) (formula-at fs r)
+formula-of fs (Or l r) = either (formula-at fs l) (formula-at fs r)
+formula-of fs (Once l a b) = once (formula-at fs l) a b
+formula-of fs (Always l a b) = always (formula-at fs l) a b
+formula-of fs (Since l r a b) = since (formula-at fs l) (formula-at fs r) a b
+formula-of fs (Rule i l) = formula-at fs l
 
 -- the formulas fs and after them those of the rows
 abbrev pub along : List Formula → List Row → List Formula
@@ -103,14 +94,14 @@ word f zero = 0
 word f (suc n) = cond (f n) (2 ^ n) 0 + word f n
 
 abbrev pub is-rule : ℕ → Row → Bool
-is-rule i (P j) = false
-is-rule i (N l) = false
-is-rule i (A l r) = false
-is-rule i (O l r) = false
-is-rule i (D l a b) = false
-is-rule i (B l a b) = false
-is-rule i (S l r a b) = false
-is-rule i (R j l) = eqb i j
+is-rule i (Input j) = false
+is-rule i (Not l) = false
+is-rule i (And l r) = false
+is-rule i (Or l r) = false
+is-rule i (Once l a b) = false
+is-rule i (Always l a b) = false
+is-rule i (Since l r a b) = false
+is-rule i (Rule j l) = eqb i j
 
 -- rule i is read as yes at tick t; no where the chain has no rule i
 abbrev pub rule : List Row → List ℕ → ℕ → ℕ → Bool
@@ -122,14 +113,14 @@ verdict rows h t = word (rule rows h t) 16
 
 -- every bound multiplied by q
 abbrev pub scaled-row : ℕ → Row → Row
-scaled-row q (P i) = P i
-scaled-row q (N l) = N l
-scaled-row q (A l r) = A l r
-scaled-row q (O l r) = O l r
-scaled-row q (D l a b) = D l (q * a) (q * b)
-scaled-row q (B l a b) = B l (q * a) (q * b)
-scaled-row q (S l r a b) = S l r (q * a) (q * b)
-scaled-row q (R i l) = R i l
+scaled-row q (Input i) = Input i
+scaled-row q (Not l) = Not l
+scaled-row q (And l r) = And l r
+scaled-row q (Or l r) = Or l r
+scaled-row q (Once l a b) = Once l (q * a) (q * b)
+scaled-row q (Always l a b) = Always l (q * a) (q * b)
+scaled-row q (Since l r a b) = Since l r (q * a) (q * b)
+scaled-row q (Rule i l) = Rule i l
 
 abbrev pub scaled-rows : ℕ → List Row → List Row
 scaled-rows q rows = map (scaled-row q) rows
