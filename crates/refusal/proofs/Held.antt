@@ -1,0 +1,40 @@
+-- Faults and the refusal that they come to. Assumes nothing.
+use mathlib.Core.Path.{_≡_, refl, _∙_}
+use mathlib.Core.Bool.{Bool, true, false, cond}
+use mathlib.Core.List.{List, [], _∷_, _++_}
+use mathlib.Core.Logic.{_⊎_, inl, inr, ⊎-elim, _↔_}
+use Prim.Native.Nat.{ℕ}
+use native.Mathlib.Omega.{arith}
+use Rattle.std.specs.Options.{isSome}
+use Rattle.std.specs.declared.option.Option.{Option}
+use Rattle.std.specs.declared.option.Option.the-variants.{Some, None}
+use Rattle.std.proofs.shelf.Tests.{both-ways, cond-false}
+use Rattle.refusal.specs.declared.Refusal.{Refusal}
+use Rattle.refusal.specs.Faults.{Fault, first-fault, Some-held, One-held}
+
+-- the first of two: x where b holds, else the rest
+step : (b : Bool) (x : Refusal) (rest : Option Refusal) {H : Type 0} → (isSome rest ≡ true) ↔ H → (isSome (cond b (Some x) rest) ≡ true) ↔ ((b ≡ true) ⊎ H)
+step true x rest held = (λ _. inl refl, λ _. refl)
+step false x rest held = (λ e. inr (held .0 e), λ h. ⊎-elim (λ e. absurd (both-ways false refl e)) (held .1) h)
+
+pub one-held : One-held
+one-held [] = (λ e. both-ways false refl e, λ h. absurd h)
+one-held (f ∷ fs) = step (f .held) (f .answer) (first-fault fs) (one-held fs)
+
+cond-none : (b : Bool) (x : Refusal) (rest : Option Refusal) → cond b (Some x) rest ≡ None → (b ≡ false) × (rest ≡ None)
+cond-none true x rest e = let n : _≡_ {A = ℕ} 0 1 = cc in absurd (omega arith)
+cond-none false x rest e = (refl, e)
+
+-- where there is no refusal the first fault does not hold, and the others come to none
+pub none-parts : (f : Fault) (fs : List Fault) → first-fault (f ∷ fs) ≡ None → (f .held ≡ false) × (first-fault fs ≡ None)
+none-parts f fs e = cond-none (f .held) (f .answer) (first-fault fs) e
+
+pub none-from : (f : Fault) (fs : List Fault) → f .held ≡ false → first-fault fs ≡ None → first-fault (f ∷ fs) ≡ None
+none-from f fs off none = cond-false (f .held) (Some (f .answer)) (first-fault fs) off ∙ none
+
+-- faults that do not hold in front of others make no difference
+pub first-after : (fs gs : List Fault) → first-fault fs ≡ None → first-fault (fs ++ gs) ≡ first-fault gs
+first-after [] gs e = refl
+first-after (f ∷ fs) gs e =
+    let off = none-parts f fs e in
+    cond-false (f .held) (Some (f .answer)) (first-fault (fs ++ gs)) (off .0) ∙ first-after fs gs (off .1)
