@@ -9,6 +9,7 @@ ghost use Rattle.refusal.specs.Faults.{refusal, first-fault};
 ghost use Rattle.record.specs.Layout.{two, two-at, bytes-of, known, length-ok, word-ok, is-R, is-E};
 ghost use Rattle.record.specs.Replies.{refusal-of, Apart, Checked, Checked-fields, Read, Written, Back, Passed, Order};
 use refusal::Refusal;
+use std::fmt;
 
 // The longest length of a record: a day of ticks.
 const DAY: u32 = 864_000;
@@ -54,6 +55,20 @@ pub struct Record {
     // the record's length
     pub ticks: u32,
     pub word: u32,
+}
+
+pub impl fmt::Display for Record as RecordDisplay {
+    fn fmt<W: fmt::Write>(&self, f: &mut fmt::Formatter<W>) -> fmt::Result {
+        let car = self.car.number;
+        let ticks = self.ticks;
+        let word = self.word;
+        match self.letter {
+            'R' => write!(f, "R restart car {car}"),
+            'E' => write!(f, "E end car {car}"),
+            'V' => write!(f, "V verdict car {car} word {word:04x} for {ticks}"),
+            _ => write!(f, "I inputs car {car} word {word:08x} for {ticks}"),
+        }
+    }
 }
 
 // Why bytes are no record, or a record cannot be written.
@@ -219,8 +234,7 @@ impl Record {
     }
 }
 
-// Writes a record and reads it again: it comes back as itself.
-pub fn read_back(sent: Record) -> Result<Record, RecordFault>
+fn written_and_read(sent: Record) -> Result<Record, RecordFault>
     ensures { λ r. ⌜ Back sent r ⌝ }
 {
     let mut buffer = [0; 12];
@@ -228,9 +242,25 @@ pub fn read_back(sent: Record) -> Result<Record, RecordFault>
     Record::read(&buffer)
 }
 
-// Reads a record and writes it again: the same twelve bytes are passed on.
-pub fn pass_on(bytes: &[u8], buffer: &mut [u8]) -> Result<usize, RecordFault>
+fn read_and_written(bytes: &[u8], buffer: &mut [u8]) -> Result<usize, RecordFault>
     ensures { λ r. ⌜ Passed (now (bytes .entry)) (now (buffer .entry)) (now (buffer .exit)) r ⌝ }
 {
     Record::read(bytes)?.write(buffer)
 }
+
+// Writes a record and reads it again: it comes back as itself.
+pub fn read_back(sent: Record) -> Result<Record, RecordFault>
+    ensures { λ r. ⌜ Back sent r ⌝ }
+{
+    written_and_read(sent)
+}
+
+// Reads a record and writes it again: the same twelve bytes are passed on.
+pub fn pass_on(bytes: &[u8], buffer: &mut [u8]) -> Result<usize, RecordFault>
+    ensures { λ r. ⌜ Passed (now (bytes .entry)) (now (buffer .entry)) (now (buffer .exit)) r ⌝ }
+{
+    read_and_written(bytes, buffer)
+}
+
+#[cfg(test)]
+mod tests;

@@ -3,7 +3,7 @@ use Prim.Native.Nat.{_<_}
 use native.Mathlib.Omega.{arith}
 use Rattle.record.specs.Replies.{Read}
 use Rattle.record.proofs.Replies.{back-from}
-use Rattle.record.proofs.read_back.Needs as need
+use Rattle.record.proofs.written_and_read.Needs as need
 
 pub returns : need.returns
 returns c =
