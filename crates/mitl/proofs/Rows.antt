@@ -162,3 +162,18 @@ module _ (q : ℕ) (pos : 0 < q) (rows : List Row) (h : List ℕ) (p : ℕ) wher
   pub verdict-parts : verdict (scaled-rows q rows) (parts q h) p ≡ verdict rows h (p / q)
   unfolding verdict
   verdict-parts = ap (λ f. word f 16) (fun-ext rule-parts)
+
+earlier-scaled : (q k : ℕ) (r : Row) → Earlier k r → Earlier k (scaled-row q r)
+earlier-scaled q k (Input j) e = e
+earlier-scaled q k (Not l) e = e
+earlier-scaled q k (And l r) e = e
+earlier-scaled q k (Or l r) e = e
+earlier-scaled q k (Once l a b) e = e
+earlier-scaled q k (Always l a b) e = e
+earlier-scaled q k (Since l r a b) e = e
+earlier-scaled q k (Rule j l) e = e
+
+pub chained-scaled : (q : ℕ) (rows : List Row) → Chained rows → Chained (scaled-rows q rows)
+chained-scaled q rows chained k lt =
+    subst (Earlier k) (sym (getD-mapped (scaled-row q) (Input 0) rows k))
+    (earlier-scaled q k (row-at rows k) (chained k (omega (arith, length-map rows (scaled-row q)))))

@@ -1,0 +1,5 @@
+use Rattle.mitl.proofs.Causal.{read-append, verdict-append}
+use Rattle.mitl.proofs.verdicts_stand.Needs as need
+
+pub returns : need.returns
+returns c = record { readings = read-append; verdicts = verdict-append }
