@@ -1,19 +1,21 @@
 -- The rules of a chain in the verdict word. Assumes nothing.
-use mathlib.Core.Path.{_≡_, refl, sym, ap, subst, _∙_}
-use mathlib.Core.Bool.{Bool, true, false, _&&_, false≢true}
-use mathlib.Core.List.{List}
+use mathlib.Core.Path.{_≡_, refl, sym, ap, ap₂, subst, _∙_}
+use mathlib.Core.Bool.{Bool, true, false, _&&_, _||_, false≢true}
+use mathlib.Core.List.{List, _++_}
 use mathlib.Core.Logic.{_⊎_, inl, inr}
-use Prim.Native.Nat.{ℕ, _<_, _≤_}
+use Prim.Native.Nat.{ℕ, zero, suc, _+_, _<_, _≤_}
 use native.Mathlib.Omega.{arith}
 use lib.Dec.{eqb}
-use lib.ListN.{length}
+use lib.ListN.{length, replicate}
 use Rattle.std.specs.Orderings.{Decides}
 use Rattle.std.proofs.shelf.Tests.{cases-lt, cases-bool, eqb-true, eq-eqb}
 use Rattle.std.proofs.shelf.Ways.{same-from-decides, decides-like, decides-and}
 use Rattle.mitl.specs.declared.Row.{Row}
 use Rattle.mitl.specs.declared.Row.the-variants.{Input, Not, And, Or, Once, Always, Since, Rule}
 use Rattle.mitl.specs.Formulas.{bit, sat}
-use Rattle.mitl.specs.Rows.{row-at, Chained, formula-of, formulas, read, is-rule, rule, verdict, Rules-apart}
+use Rattle.mitl.specs.Rows.{row-at, Chained, formula-of, formulas, read, is-rule, rule-by, rule, verdict, Rules-apart}
+use Rattle.mitl.specs.Windows.{some-below}
+use Rattle.mitl.specs.Blocks.{Steady}
 use Rattle.mitl.proofs.Tests.{decides-some}
 use Rattle.mitl.proofs.Rows.{formulas-at}
 use Rattle.mitl.proofs.Words.{bit-word, bit-high, word-lt, word-only}
@@ -86,3 +88,14 @@ verdict-bare rows i none h t =
       | inl small ↦ verdict-bits rows h t i small ∙ rule-bare rows h t i none
       | inr high ↦ bit-high 16 i (verdict rows h t) (verdict-small rows h t) high
     ]
+
+pub some-below-same : (p q : ℕ → Bool) (n : ℕ) → ((k : ℕ) → k < n → p k ≡ q k) → some-below p n ≡ some-below q n
+some-below-same p q zero same = refl
+some-below-same p q (suc n) same = ap₂ _||_ (same n (omega arith)) (some-below-same p q n (λ k lt. same k (omega arith)))
+
+-- the word made of values that the rows keep over a block is the verdict there
+pub block-verdict : (rows : List Row) (h : List ℕ) (n w : ℕ) (v : ℕ → Bool) → Steady rows h n w v (length rows)
+    → (x : ℕ) → x < 65536 → ((i : ℕ) → i < 16 → bit i x ≡ rule-by rows v i) → (u : ℕ) → length h ≤ u → u < length h + n → x ≡ verdict rows (h ++ replicate n w) u
+block-verdict rows h n w v steady x small bits u low high =
+    verdict-only rows (h ++ replicate n w) u x small
+    (λ i lt. bits i lt ∙ some-below-same _ _ (length rows) (λ k within. ap (λ b. is-rule i (row-at rows k) && b) (sym (steady k within u low high))))

@@ -63,8 +63,8 @@ abbrev pub row-looked : List Row → ℕ → List ℕ → Meaning
 row-looked rows k h = looked (formula-at (formulas rows) k) h
 
 -- each row has by its marks the value that v gives it, at each of the n ticks ahead with the word w
-abbrev pub Stays : List Row → List ℕ → ℕ → ℕ → (ℕ → Bool) → Type 0
-Stays rows h n w v = (k : ℕ) → k < length rows → (d : ℕ) → d < n → row-ahead (row-at rows k) (row-outlook rows k h) v w d ≡ v k
+abbrev pub Foreseen : List Row → List ℕ → ℕ → ℕ → (ℕ → Bool) → Type 0
+Foreseen rows h n w v = (k : ℕ) → k < length rows → (d : ℕ) → d < n → row-ahead (row-at rows k) (row-outlook rows k h) v w d ≡ v k
 
 -- each row before place j is read as v has it, at each of the n ticks with the word w that follow the history h
 abbrev pub Steady : List Row → List ℕ → ℕ → ℕ → (ℕ → Bool) → ℕ → Type 0

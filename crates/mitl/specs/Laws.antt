@@ -8,9 +8,9 @@ use Rattle.std.specs.Orderings.{Decides}
 use Rattle.mitl.specs.declared.Row.{Row}
 use Rattle.mitl.specs.declared.Row.the-variants.{Rule}
 use Rattle.mitl.specs.Formulas.{Formula, bit, Sat, sat, parts}
-use Rattle.mitl.specs.Rows.{is-timed, row-at, Chained, Reads, read, formula-at, formula-of, formulas, rule, verdict, Rules-apart, scaled-rows}
+use Rattle.mitl.specs.Rows.{is-timed, row-at, Chained, Reads, read, formula-at, formula-of, formulas, rule-by, rule, verdict, Rules-apart, scaled-rows}
 use Rattle.mitl.specs.Outlook.{Marked, outlook, looked, from, to, row-from, row-to, Row-marked}
-use Rattle.mitl.specs.Blocks.{row-after, advanced, Proper, row-outlook, row-looked, Stays, Steady}
+use Rattle.mitl.specs.Blocks.{row-after, advanced, Proper, row-outlook, row-looked, Foreseen, Steady}
 use Rattle.mitl.specs.Runs.{Run, Cut, runs, ticks}
 use Rattle.mitl.specs.Memory.{clean, stretches}
 
@@ -69,11 +69,14 @@ Bounds-stretches a b n = (f : Formula) (h : List ℕ) → from f ≡ a → to f 
 -- the marks tell the readings ahead over ticks with one word, and what the marks and the memories are after them
 pub record Foretold : Type 0 where
   pub readings : (rows : List Row) → Chained rows → ((k : ℕ) → k < length rows → Proper (row-at rows k)) → (h : List ℕ) (n w : ℕ) (v : ℕ → Bool)
-      → Stays rows h n w v → Steady rows h n w v (length rows)
+      → Foreseen rows h n w v → Steady rows h n w v (length rows)
   pub marks : (rows : List Row) → Chained rows → (h : List ℕ) (n w : ℕ) (v : ℕ → Bool) (k : ℕ) → k < length rows → is-timed (row-at rows k) ≡ true → 0 < n
       → Steady rows h n w v k → (d : ℕ) → row-outlook rows k (h ++ replicate n w) d ≡ row-after (row-at rows k) (row-outlook rows k h) v n d
   pub memories : (rows : List Row) → Chained rows → (h : List ℕ) (n w : ℕ) (v : ℕ → Bool) (k : ℕ) → k < length rows → is-timed (row-at rows k) ≡ true → 0 < n
       → Steady rows h n w v k → row-looked rows k (h ++ replicate n w) ≡ advanced (row-at rows k) v n (row-looked rows k h)
+  -- the word made of the values is the verdict at each of these ticks
+  pub verdicts : (rows : List Row) (h : List ℕ) (n w : ℕ) (v : ℕ → Bool) → Steady rows h n w v (length rows)
+      → (x : ℕ) → x < 65536 → ((i : ℕ) → i < 16 → bit i x ≡ rule-by rows v i) → (u : ℕ) → length h ≤ u → u < length h + n → x ≡ verdict rows (h ++ replicate n w) u
 
 -- a list of words has one cut into longest runs
 pub record One-cut : Type 0 where

@@ -109,9 +109,13 @@ is-rule i (Always l a b) = false
 is-rule i (Since l r a b) = false
 is-rule i (Rule j l) = eqb i j
 
--- Rule i is read as yes at tick t; no where the chain has no rule i.
+-- Rule i is yes where v k is how the row at place k is read; no where the chain has no rule i.
+abbrev pub rule-by : List Row → (ℕ → Bool) → ℕ → Bool
+rule-by rows v i = some-below (λ k. is-rule i (row-at rows k) && v k) (length rows)
+
+-- rule i is read as yes at tick t
 abbrev pub rule : List Row → List ℕ → ℕ → ℕ → Bool
-rule rows h t i = some-below (λ k. is-rule i (row-at rows k) && read rows h k t) (length rows)
+rule rows h t i = rule-by rows (λ k. read rows h k t) i
 
 -- no two rules have one number
 abbrev pub Rules-apart : List Row → Type 0

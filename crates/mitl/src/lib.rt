@@ -133,7 +133,8 @@ pub fn outlooks_mark_reach() -> u8
     0
 }
 
-// The marks tell how the rows are read over coming ticks with one input word, and what the memories mean after them.
+// The marks tell how the rows are read over coming ticks with one input word, the verdict word there, and what the
+// memories mean after them.
 pub fn marks_foretell() -> u8
     ensures { λ _. ⌜ Foretold ⌝ }
 {
