@@ -1,17 +1,17 @@
 -- The readings and the outlooks over a block of ticks with one word. Assumes nothing.
 use mathlib.Core.Path.{_≡_, refl, sym, ap, ap₂, subst, fun-ext, _∙_}
 use mathlib.Core.Bool.{Bool, true, false, not, cond, _&&_, _||_, false≢true}
-use mathlib.Core.List.{List, [], _∷_, _++_}
+use mathlib.Core.List.{List, _++_}
 use Prim.Native.Nat.{ℕ, zero, suc, _+_, _-_, _<_, _≤_}
-use mathlib.Core.Logic.{_⊎_, inl, inr}
+use mathlib.Core.Logic.{inl, inr}
 use native.Mathlib.Nat.{not-suc-le-zero}
 use native.Mathlib.Omega.{arith}
 use Rattle.std.proofs.shelf.Tests.{cases-lt}
-use lib.ListN.{getD, length, replicate, length-replicate, length-append}
+use lib.ListN.{length, replicate, length-replicate, length-append}
 use Rattle.std.proofs.shelf.Lists.{getD-append-add, getD-replicate}
 use Rattle.mitl.specs.declared.Row.{Row}
 use Rattle.mitl.specs.declared.Row.the-variants.{Input, Not, And, Or, Once, Always, Since, Rule}
-use Rattle.mitl.specs.Formulas.{Formula, input, neg, both, either, once, always, since, sat, bit}
+use Rattle.mitl.specs.Formulas.{Formula, since, sat, bit}
 use Rattle.mitl.specs.Rows.{Earlier, is-timed, row-at, Chained, formula-at, formula-of, formulas, read}
 use Rattle.mitl.specs.Outlook.{outlook, looked}
 use Rattle.mitl.specs.Memory.{Meaning, took, cleared, taken, ahead}

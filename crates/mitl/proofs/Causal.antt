@@ -1,16 +1,16 @@
 -- What a formula says at a tick does not depend on later ticks. Assumes nothing.
-use mathlib.Core.Path.{_≡_, refl, sym, ap, subst, fun-ext, _∙_}
-use mathlib.Core.Bool.{Bool, true, _&&_}
-use mathlib.Core.List.{List, [], _∷_, _++_}
-use mathlib.Core.Logic.{_⊎_, inl, inr, _↔_}
-use Prim.Native.Nat.{ℕ, zero, suc, _+_, _<_, _≤_}
+use mathlib.Core.Path.{_≡_, sym, ap, fun-ext, _∙_}
+use mathlib.Core.Bool.{_&&_}
+use mathlib.Core.List.{List, _++_}
+use mathlib.Core.Logic.{inl, inr, _↔_}
+use Prim.Native.Nat.{ℕ, _<_}
 use native.Mathlib.Omega.{arith}
-use lib.ListN.{getD, length}
+use lib.ListN.{length}
 use Rattle.std.proofs.shelf.Lists.{getD-append-left}
 use Rattle.std.proofs.shelf.Ways.{same-from-decides, decides-like}
 use Rattle.mitl.specs.Formulas.{Formula, input, neg, both, either, once, always, since, Sat, sat, bit}
 use Rattle.mitl.proofs.Tests.{decides-sat}
-use Rattle.mitl.specs.Windows.{Window, some-below}
+use Rattle.mitl.specs.Windows.{some-below}
 use Rattle.mitl.specs.declared.Row.{Row}
 use Rattle.mitl.specs.Rows.{row-at, formula-at, formulas, read, word, is-rule, verdict}
 

@@ -1,9 +1,8 @@
 -- A tick split into q parts, with every bound multiplied by q, keeps its readings. Assumes nothing.
 use mathlib.Core.Path.{_≡_, refl, sym, ap, subst, _∙_}
-use mathlib.Core.Bool.{Bool, true}
 use mathlib.Core.List.{List, [], _∷_}
-use mathlib.Core.Logic.{_⊎_, inl, inr, _↔_}
-use Prim.Native.Nat.{ℕ, zero, suc, _+_, _-_, _*_, _/_, _%_, _<_, _≤_}
+use mathlib.Core.Logic.{inl, inr, _↔_}
+use Prim.Native.Nat.{ℕ, suc, _+_, _-_, _*_, _/_, _%_, _<_, _≤_}
 use native.Mathlib.Nat.{div-mul-le-self, le-div-iff-mul-le, le-trans, add-mul-div-left, mul-add-div, div-eq-of-lt, mod-lt, div-eq-sub-div, mul-le-mul-left, div-add-mod, add-zero, mul-div-cancel-left, mul-zero, mul-suc}
 use native.Mathlib.Omega.{arith}
 use lib.ListN.{getD, replicate, length, length-append, length-replicate}

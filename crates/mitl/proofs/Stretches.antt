@@ -1,17 +1,16 @@
 -- How many stretches of yes an outlook can have. Assumes nothing.
 use mathlib.Core.Path.{_≡_, refl, sym, ap, ap₂, subst, _∙_}
-use mathlib.Core.Bool.{Bool, true, false, not, _&&_, _||_, cond}
-use mathlib.Core.List.{List, _++_}
-use mathlib.Core.Logic.{_⊎_, inl, inr, _↔_}
+use mathlib.Core.Bool.{Bool, true, false, not, _&&_, cond}
+use mathlib.Core.List.{List}
+use mathlib.Core.Logic.{_⊎_, inl, inr}
 use Prim.Native.Nat.{ℕ, zero, suc, _+_, _-_, _*_, _/_, _<_, _≤_}
 use native.Mathlib.Nat.{le-div-iff-mul-le}
 use native.Mathlib.Omega.{arith}
 use lib.ListN.{length}
-use Rattle.std.proofs.shelf.Tests.{cases-lt, cases-bool, and-parts, not-true, both-ways}
+use Rattle.std.proofs.shelf.Tests.{cases-lt, and-parts, not-true, both-ways}
 use Rattle.mitl.specs.Formulas.{Formula}
-use Rattle.mitl.specs.Outlook.{from, to, Counts, Marked, outlook}
+use Rattle.mitl.specs.Outlook.{from, to, Marked, outlook}
 use Rattle.mitl.proofs.Outlook.{decides-outlook}
-use Rattle.mitl.specs.Windows.{Window}
 use Rattle.mitl.specs.Memory.{stretches, most-stretches}
 use Rattle.mitl.specs.Laws.{Bounds-stretches}
 

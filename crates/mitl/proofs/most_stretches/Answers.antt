@@ -1,6 +1,5 @@
 use borrow.Author.Needs.{needs}
-use mathlib.Core.Path.{_≡_, subst}
-use Prim.Native.Nat.{_≤_}
+use mathlib.Core.Path.{_≡_}
 use Rattle.mitl.specs.Memory.{most-stretches}
 use Rattle.mitl.proofs.Stretches.{bounds}
 use Rattle.mitl.proofs.most_stretches.Needs as need
