@@ -93,42 +93,42 @@ fn one_and_quotient(b: u32, gap: u64) -> u32
 
 // A formula's test says yes exactly where the formula holds.
 pub fn satisfaction_is_decided() -> u8
-    ensures { λ _. ⌜ Decided ⌝ }
+    ensures { λ r. ⌜ r ≡ 0 ⌝ ∗ ⌜ Decided ⌝ }
 {
     0
 }
 
 // The rows of a chain are read as they say, in one way only, and it is the way their formulas are read.
 pub fn readings_are_unique() -> u8
-    ensures { λ _. ⌜ One-reading ⌝ }
+    ensures { λ r. ⌜ r ≡ 0 ⌝ ∗ ⌜ One-reading ⌝ }
 {
     0
 }
 
 // What is read at a tick stands, whatever ticks follow.
 pub fn verdicts_stand() -> u8
-    ensures { λ _. ⌜ Settled ⌝ }
+    ensures { λ r. ⌜ r ≡ 0 ⌝ ∗ ⌜ Settled ⌝ }
 {
     0
 }
 
 // The verdict word is the one word of 16 bits whose bit i is rule i, and 0 where there is no rule i.
 pub fn words_hold_rules() -> u8
-    ensures { λ _. ⌜ Worded ⌝ }
+    ensures { λ r. ⌜ r ≡ 0 ⌝ ∗ ⌜ Worded ⌝ }
 {
     0
 }
 
 // With each tick split into q equal parts and every bound multiplied by q, every part has the verdict of its tick.
 pub fn every_part_agrees() -> u8
-    ensures { λ _. ⌜ Split ⌝ }
+    ensures { λ r. ⌜ r ≡ 0 ⌝ ∗ ⌜ Split ⌝ }
 {
     0
 }
 
 // A mark is yes exactly where a tick taken that counts reaches it, by the readings of the rows.
 pub fn outlooks_mark_reach() -> u8
-    ensures { λ _. ⌜ Outlooks ⌝ }
+    ensures { λ r. ⌜ r ≡ 0 ⌝ ∗ ⌜ Outlooks ⌝ }
 {
     0
 }
@@ -136,21 +136,21 @@ pub fn outlooks_mark_reach() -> u8
 // The marks tell how the rows are read over coming ticks with one input word, the verdict word there, and what the
 // memories mean after them.
 pub fn marks_foretell() -> u8
-    ensures { λ _. ⌜ Foretold ⌝ }
+    ensures { λ r. ⌜ r ≡ 0 ⌝ ∗ ⌜ Foretold ⌝ }
 {
     0
 }
 
 // A list of words is cut into longest runs in one way only, and so are the ticks that its first runs cover.
 pub fn longest_runs_are_unique() -> u8
-    ensures { λ _. ⌜ One-cut ⌝ }
+    ensures { λ r. ⌜ r ≡ 0 ⌝ ∗ ⌜ One-cut ⌝ }
 {
     0
 }
 
 // The worked cases come out as listed.
 pub fn cases_hold() -> u8
-    ensures { λ _. ⌜ Cases-right ⌝ }
+    ensures { λ r. ⌜ r ≡ 0 ⌝ ∗ ⌜ Cases-right ⌝ }
 {
     0
 }
