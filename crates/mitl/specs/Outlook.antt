@@ -59,6 +59,7 @@ counts (since f g a b) h t u = sat g h u && all-below (λ s. not (leb u s) || sa
 abbrev pub reach : ℕ → ℕ → (ℕ → Bool) → ℕ → ℕ → Bool
 reach a b c t d = some-below (λ u. window a b (t + d) u && c u) t
 
+-- the outlook after a history: mark d
 abbrev pub outlook : Formula → List ℕ → ℕ → Bool
 outlook f h d = reach (from f) (to f) (counts f h (length h)) (length h) d
 
