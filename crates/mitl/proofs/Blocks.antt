@@ -1,21 +1,21 @@
 -- The readings and the outlooks over a block of ticks with one word. Assumes nothing.
 use mathlib.Core.Path.{_≡_, refl, sym, ap, ap₂, subst, fun-ext, _∙_}
 use mathlib.Core.Bool.{Bool, true, false, not, cond, _&&_, _||_, false≢true}
-use mathlib.Core.List.{List, [], _∷_, _++_}
+use mathlib.Core.List.{List, _++_}
 use Prim.Native.Nat.{ℕ, zero, suc, _+_, _-_, _<_, _≤_}
-use mathlib.Core.Logic.{_⊎_, inl, inr}
+use mathlib.Core.Logic.{inl, inr}
 use native.Mathlib.Nat.{not-suc-le-zero}
 use native.Mathlib.Omega.{arith}
 use Rattle.std.proofs.shelf.Tests.{cases-lt}
-use lib.ListN.{getD, length, replicate, length-replicate, length-append}
+use lib.ListN.{length, replicate, length-replicate, length-append}
 use Rattle.std.proofs.shelf.Lists.{getD-append-add, getD-replicate}
 use Rattle.mitl.specs.declared.Row.{Row}
 use Rattle.mitl.specs.declared.Row.the-variants.{Input, Not, And, Or, Once, Always, Since, Rule}
-use Rattle.mitl.specs.Formulas.{Formula, input, neg, both, either, once, always, since, sat, bit}
+use Rattle.mitl.specs.Formulas.{Formula, since, sat, bit}
 use Rattle.mitl.specs.Rows.{Earlier, is-timed, row-at, Chained, formula-at, formula-of, formulas, read}
 use Rattle.mitl.specs.Outlook.{outlook, looked}
 use Rattle.mitl.specs.Memory.{Meaning, took, cleared, taken, ahead}
-use Rattle.mitl.specs.Blocks.{row-ahead, row-after, advanced, Proper}
+use Rattle.mitl.specs.Blocks.{row-ahead, row-after, advanced, Proper, row-outlook, row-looked, Foreseen, Steady}
 use Rattle.mitl.proofs.Outlook.{once-ahead, always-ahead, since-ahead, since-off, once-takes, always-takes, since-takes, since-clears}
 use Rattle.mitl.proofs.Rows.{formulas-at}
 
@@ -28,10 +28,10 @@ module _ (fs : List Formula) (h : List ℕ) (n w : ℕ) (v : ℕ → Bool) (k : 
   block = replicate n w
 
   -- the rows before k keep the readings v, up to and with d ticks ahead
-  abbrev Steady : ℕ → Type 0
-  Steady d = (l : ℕ) → l < k → (u : ℕ) → length h ≤ u → u ≤ length h + d → sat (formula-at fs l) (h ++ block) u ≡ v l
+  abbrev Held-until : ℕ → Type 0
+  Held-until d = (l : ℕ) → l < k → (u : ℕ) → length h ≤ u → u ≤ length h + d → sat (formula-at fs l) (h ++ block) u ≡ v l
 
-  row-ahead-is : (r : Row) → Earlier k r → Proper r → (d : ℕ) → d < n → Steady d → sat (formula-of fs r) (h ++ block) (length h + d) ≡ row-ahead r (outlook (formula-of fs r) h) v w d
+  row-ahead-is : (r : Row) → Earlier k r → Proper r → (d : ℕ) → d < n → Held-until d → sat (formula-of fs r) (h ++ block) (length h + d) ≡ row-ahead r (outlook (formula-of fs r) h) v w d
   row-ahead-is (Input i) e p d lt steady = ap (bit i) (getD-append-add h block d 0 ∙ getD-replicate n d w 0 lt)
   row-ahead-is (Not l) e p d lt steady = ap not (steady l e (length h + d) (omega arith) (omega arith))
   row-ahead-is (And l r) e p d lt steady = ap₂ _&&_ (steady l (e .0) (length h + d) (omega arith) (omega arith)) (steady r (e .1) (length h + d) (omega arith) (omega arith))
@@ -48,10 +48,10 @@ module _ (fs : List Formula) (h : List ℕ) (n w : ℕ) (v : ℕ → Bool) (k : 
   row-ahead-is (Rule i l) e p d lt steady = steady l e (length h + d) (omega arith) (omega arith)
 
   -- the rows before k keep the readings v over the block
-  abbrev Steady-all : Type 0
-  Steady-all = (l : ℕ) → l < k → (u : ℕ) → length h ≤ u → u < length h + n → sat (formula-at fs l) (h ++ block) u ≡ v l
+  abbrev Held : Type 0
+  Held = (l : ℕ) → l < k → (u : ℕ) → length h ≤ u → u < length h + n → sat (formula-at fs l) (h ++ block) u ≡ v l
 
-  row-after-is : (r : Row) → is-timed r ≡ true → Earlier k r → 0 < n → Steady-all → (d : ℕ) → outlook (formula-of fs r) (h ++ block) d ≡ row-after r (outlook (formula-of fs r) h) v n d
+  row-after-is : (r : Row) → is-timed r ≡ true → Earlier k r → 0 < n → Held → (d : ℕ) → outlook (formula-of fs r) (h ++ block) d ≡ row-after r (outlook (formula-of fs r) h) v n d
   row-after-is (Input i) t e pos steady d = absurd (false≢true t)
   row-after-is (Not l) t e pos steady d = absurd (false≢true t)
   row-after-is (And l r) t e pos steady d = absurd (false≢true t)
@@ -87,16 +87,15 @@ module _ (rows : List Row) (chained : Chained rows) (h : List ℕ) (n w : ℕ) (
       (row-ahead-is (formulas rows) h n w v k (row-at rows k) (chained k within) proper d lt steady)
 
   pub outlook-after : is-timed (row-at rows k) ≡ true → 0 < n
-      → ((l : ℕ) → l < k → (u : ℕ) → length h ≤ u → u < length h + n → read rows (h ++ replicate n w) l u ≡ v l)
-      → (d : ℕ) → outlook (formula-at (formulas rows) k) (h ++ replicate n w) d ≡ row-after (row-at rows k) (outlook (formula-at (formulas rows) k) h) v n d
+      → Steady rows h n w v k → (d : ℕ) → row-outlook rows k (h ++ replicate n w) d ≡ row-after (row-at rows k) (row-outlook rows k h) v n d
   outlook-after timed pos steady d =
       subst (λ f. outlook f (h ++ replicate n w) d ≡ row-after (row-at rows k) (outlook f h) v n d) (sym (formulas-at rows chained k within))
       (row-after-is (formulas rows) h n w v k (row-at rows k) timed (chained k within) pos steady d)
 
 -- Values that every row keeps ahead, as its memory has it, are the readings over the block.
 module _ (rows : List Row) (chained : Chained rows) (proper : (k : ℕ) → k < length rows → Proper (row-at rows k)) (h : List ℕ) (n w : ℕ) (v : ℕ → Bool)
-    (keeps : (k : ℕ) → k < length rows → (d : ℕ) → d < n → row-ahead (row-at rows k) (outlook (formula-at (formulas rows) k) h) v w d ≡ v k) where
-  steady-below : (j : ℕ) → j ≤ length rows → (k : ℕ) → k < j → (u : ℕ) → length h ≤ u → u < length h + n → read rows (h ++ replicate n w) k u ≡ v k
+    (keeps : Foreseen rows h n w v) where
+  steady-below : (j : ℕ) → j ≤ length rows → Steady rows h n w v j
   steady-below zero le k lt u low high = absurd (not-suc-le-zero lt)
   steady-below (suc j) le k lt u low high =
       let before = steady-below j (omega arith) in
@@ -110,7 +109,7 @@ module _ (rows : List Row) (chained : Chained rows) (proper : (k : ℕ) → k < 
             ∙ keeps k within (u - length h) (omega arith)))
       ]
 
-  pub block-readings : (k : ℕ) → k < length rows → (u : ℕ) → length h ≤ u → u < length h + n → read rows (h ++ replicate n w) k u ≡ v k
+  pub block-readings : Steady rows h n w v (length rows)
   block-readings = steady-below (length rows) (omega arith)
 
 -- a path between meanings, from the windows and the marks
@@ -121,8 +120,7 @@ meaning-path a b a′ b′ f g p q e = λ i. record { a = p i; b = q i; mark = f
 module _ (rows : List Row) (chained : Chained rows) (h : List ℕ) (n w : ℕ) (v : ℕ → Bool) (k : ℕ) (within : k < length rows) where
   -- what the memory of a timed row means after the block
   pub looked-after : is-timed (row-at rows k) ≡ true → 0 < n
-      → ((l : ℕ) → l < k → (u : ℕ) → length h ≤ u → u < length h + n → read rows (h ++ replicate n w) l u ≡ v l)
-      → looked (formula-at (formulas rows) k) (h ++ replicate n w) ≡ advanced (row-at rows k) v n (looked (formula-at (formulas rows) k) h)
+      → Steady rows h n w v k → row-looked rows k (h ++ replicate n w) ≡ advanced (row-at rows k) v n (row-looked rows k h)
   looked-after timed pos steady =
       subst (λ f. looked f (h ++ replicate n w) ≡ advanced (row-at rows k) v n (looked f h)) (sym (formulas-at rows chained k within))
       (go (row-at rows k) timed

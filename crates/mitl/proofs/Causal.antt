@@ -1,16 +1,18 @@
 -- What a formula says at a tick does not depend on later ticks. Assumes nothing.
-use mathlib.Core.Path.{_≡_, refl, sym, ap, subst, _∙_}
-use mathlib.Core.Bool.{Bool, true}
-use mathlib.Core.List.{List, [], _∷_, _++_}
-use mathlib.Core.Logic.{_⊎_, inl, inr, _↔_}
-use Prim.Native.Nat.{ℕ, zero, suc, _+_, _<_, _≤_}
+use mathlib.Core.Path.{_≡_, sym, ap, fun-ext, _∙_}
+use mathlib.Core.Bool.{_&&_}
+use mathlib.Core.List.{List, _++_}
+use mathlib.Core.Logic.{inl, inr, _↔_}
+use Prim.Native.Nat.{ℕ, _<_}
 use native.Mathlib.Omega.{arith}
-use lib.ListN.{getD, length}
+use lib.ListN.{length}
 use Rattle.std.proofs.shelf.Lists.{getD-append-left}
 use Rattle.std.proofs.shelf.Ways.{same-from-decides, decides-like}
 use Rattle.mitl.specs.Formulas.{Formula, input, neg, both, either, once, always, since, Sat, sat, bit}
 use Rattle.mitl.proofs.Tests.{decides-sat}
-use Rattle.mitl.specs.Windows.{Window}
+use Rattle.mitl.specs.Windows.{some-below}
+use Rattle.mitl.specs.declared.Row.{Row}
+use Rattle.mitl.specs.Rows.{row-at, formula-at, formulas, read, word, is-rule, verdict}
 
 module _ (h x : List ℕ) where
   pub Sat-append : (f : Formula) (t : ℕ) → t < length h → Sat f (h ++ x) t ↔ Sat f h t
@@ -40,3 +42,12 @@ module _ (h x : List ℕ) where
   pub sat-append : (f : Formula) (t : ℕ) → t < length h → sat f (h ++ x) t ≡ sat f h t
   sat-append f t lt =
       same-from-decides _ _ (decides-like _ (Sat-append f t lt .0) (Sat-append f t lt .1) (decides-sat f (h ++ x) t)) (decides-sat f h t)
+
+pub read-append : (rows : List Row) (h x : List ℕ) (k t : ℕ) → t < length h → read rows (h ++ x) k t ≡ read rows h k t
+read-append rows h x k t lt = sat-append h x (formula-at (formulas rows) k) t lt
+
+pub verdict-append : (rows : List Row) (h x : List ℕ) (t : ℕ) → t < length h → verdict rows (h ++ x) t ≡ verdict rows h t
+unfolding verdict
+verdict-append rows h x t lt =
+    ap (λ f. word f 16)
+    (fun-ext (λ i. ap (λ p. some-below p (length rows)) (fun-ext (λ k. ap (λ b. is-rule i (row-at rows k) && b) (read-append rows h x k t lt)))))

@@ -3,7 +3,9 @@ pub mod Parts
 pub mod Rows
 pub mod Causal
 pub mod Outlook
+pub mod Marks
 pub mod Stretches
 pub mod Blocks
 pub mod Runs
 pub mod Words
+pub mod Rules

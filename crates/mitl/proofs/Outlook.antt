@@ -1,20 +1,20 @@
 -- The outlook that a history gives: how it moves as ticks are taken, and what it says of the ticks ahead. Assumes nothing.
-use mathlib.Core.Path.{_≡_, refl, sym, ap, ap₂, subst, _∙_}
+use mathlib.Core.Path.{_≡_, refl, sym, ap, ap₂, _∙_}
 use mathlib.Core.Bool.{Bool, true, false, not, _&&_, _||_, false≢true}
 use mathlib.Core.List.{List, _++_}
-use mathlib.Core.Logic.{_⊎_, inl, inr, _↔_}
-use Prim.Native.Nat.{ℕ, zero, suc, _+_, _-_, _<_, _≤_}
+use mathlib.Core.Logic.{_⊎_, inl, inr}
+use Prim.Native.Nat.{ℕ, suc, _+_, _-_, _<_, _≤_}
 use native.Mathlib.Omega.{arith}
 use lib.Dec.{leb}
 use lib.ListN.{length, length-append}
 use Rattle.std.specs.Orderings.{Decides}
 use Rattle.std.proofs.shelf.Tests.{cases-lt, cases-bool, both-ways, not-true, not-from-false, and-from, and-parts}
 use Rattle.std.proofs.shelf.Ways.{same-from-decides, decides-like, decides-not, decides-and, decides-or}
-use Rattle.mitl.specs.Formulas.{Formula, input, neg, both, either, once, always, since, Sat, sat}
+use Rattle.mitl.specs.Formulas.{Formula, input, neg, both, either, once, always, since, sat}
 use Rattle.mitl.specs.Outlook.{from, to, Counts, Marked, counts, reach, outlook}
 use Rattle.mitl.proofs.Tests.{decides-sat, decides-leb, decides-window, decides-some, decides-all, decides-implies}
 use Rattle.mitl.proofs.Causal.{sat-append}
-use Rattle.mitl.specs.Windows.{Window, window, some-below, all-below}
+use Rattle.mitl.specs.Windows.{Window, all-below}
 use Rattle.mitl.specs.Memory.{meets, taken, ahead}
 
 never : Decides false ⊥

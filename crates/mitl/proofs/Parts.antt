@@ -1,12 +1,11 @@
 -- A tick split into q parts, with every bound multiplied by q, keeps its readings. Assumes nothing.
 use mathlib.Core.Path.{_≡_, refl, sym, ap, subst, _∙_}
-use mathlib.Core.Bool.{Bool, true}
 use mathlib.Core.List.{List, [], _∷_}
-use mathlib.Core.Logic.{_⊎_, inl, inr, _↔_}
-use Prim.Native.Nat.{ℕ, zero, suc, _+_, _-_, _*_, _/_, _%_, _<_, _≤_}
-use native.Mathlib.Nat.{div-mul-le-self, le-div-iff-mul-le, le-trans, add-mul-div-left, mul-add-div, div-eq-of-lt, mod-lt, div-eq-sub-div, mul-le-mul-left, div-add-mod, add-zero, mul-div-cancel-left}
+use mathlib.Core.Logic.{inl, inr, _↔_}
+use Prim.Native.Nat.{ℕ, suc, _+_, _-_, _*_, _/_, _%_, _<_, _≤_}
+use native.Mathlib.Nat.{div-mul-le-self, le-div-iff-mul-le, le-trans, add-mul-div-left, mul-add-div, div-eq-of-lt, mod-lt, div-eq-sub-div, mul-le-mul-left, div-add-mod, add-zero, mul-div-cancel-left, mul-zero, mul-suc}
 use native.Mathlib.Omega.{arith}
-use lib.ListN.{getD, replicate, length, length-replicate}
+use lib.ListN.{getD, replicate, length, length-append, length-replicate}
 use Rattle.std.proofs.shelf.Lists.{getD-append-left, getD-append-right, getD-replicate}
 use Rattle.std.proofs.shelf.Tests.{cases-lt}
 use Rattle.std.proofs.shelf.Ways.{same-from-decides, decides-like}
@@ -102,3 +101,8 @@ module _ (q : ℕ) (pos : 0 < q) where
   pub sat-parts : (f : Formula) (h : List ℕ) (k : ℕ) → sat (scaled q f) (parts q h) k ≡ sat f h (k / q)
   sat-parts f h k =
       same-from-decides _ _ (decides-like _ (Sat-parts f h k .0) (Sat-parts f h k .1) (decides-sat (scaled q f) (parts q h) k)) (decides-sat f h (k / q))
+
+pub length-parts : (q : ℕ) (h : List ℕ) → length (parts q h) ≡ q * length h
+length-parts q [] = sym (mul-zero q)
+length-parts q (x ∷ xs) =
+    length-append (replicate q x) (parts q xs) ∙ omega (arith, length-replicate q x, length-parts q xs, mul-suc q (length xs))

@@ -1,24 +1,23 @@
 -- The readings along a chain: they are what the rows say, the only ones, and a split of the ticks keeps them. Assumes nothing.
 use mathlib.Core.Path.{_≡_, refl, sym, ap, ap₂, subst, fun-ext, _∙_}
-use mathlib.Core.Bool.{Bool, true, false, not, _&&_, _||_, cond}
+use mathlib.Core.Bool.{Bool, _&&_}
 use mathlib.Core.List.{List, [], _∷_, _++_, map}
-use mathlib.Core.Logic.{_⊎_, inl, inr, _↔_}
-use Prim.Native.Nat.{ℕ, zero, suc, _+_, _-_, _*_, _/_, _%_, _^_, _<_, _≤_}
+use mathlib.Core.Logic.{inl, inr}
+use Prim.Native.Nat.{ℕ, zero, suc, _+_, _*_, _/_, _<_, _≤_}
 use native.Mathlib.Nat.{not-suc-le-zero, zero-add}
 use native.Mathlib.Omega.{arith}
-use lib.Dec.{eqb}
 use lib.ListN.{getD, length, length-append, length-map}
 use Rattle.std.specs.Orderings.{Decides}
-use Rattle.std.proofs.shelf.Lists.{getD-append-left, getD-at, append-assoc, map-push}
+use Rattle.std.proofs.shelf.Lists.{getD-append-left, getD-at, map-push}
 use Rattle.std.proofs.shelf.Tests.{cases-lt, not-true, not-from-false, and-parts, and-from, or-cases, or-left, or-right}
-use Rattle.std.proofs.shelf.Ways.{same-from-decides, decides-like, decides-at, decides-not, decides-and, decides-or}
+use Rattle.std.proofs.shelf.Ways.{same-from-decides, decides-like, decides-at}
 use Rattle.mitl.specs.declared.Row.{Row}
 use Rattle.mitl.specs.declared.Row.the-variants.{Input, Not, And, Or, Once, Always, Since, Rule}
-use Rattle.mitl.specs.Formulas.{Formula, input, neg, both, either, once, always, since, Sat, sat, bit, scaled, parts}
+use Rattle.mitl.specs.Formulas.{Formula, input, neg, both, either, once, always, since, sat, scaled, parts}
 use Rattle.mitl.specs.Rows.{Earlier, row-at, Chained, Says, Reads, formula-at, formula-of, along, formulas, read, word, is-rule, rule, verdict, scaled-row, scaled-rows}
 use Rattle.mitl.proofs.Tests.{decides-sat}
 use Rattle.mitl.proofs.Parts.{sat-parts}
-use Rattle.mitl.specs.Windows.{Window, some-below}
+use Rattle.mitl.specs.Windows.{some-below}
 
 -- what stands stays
 along-before : (rows : List Row) (fs : List Formula) (k : ℕ) → k < length fs → formula-at (along fs rows) k ≡ formula-at fs k
@@ -162,3 +161,18 @@ module _ (q : ℕ) (pos : 0 < q) (rows : List Row) (h : List ℕ) (p : ℕ) wher
   pub verdict-parts : verdict (scaled-rows q rows) (parts q h) p ≡ verdict rows h (p / q)
   unfolding verdict
   verdict-parts = ap (λ f. word f 16) (fun-ext rule-parts)
+
+earlier-scaled : (q k : ℕ) (r : Row) → Earlier k r → Earlier k (scaled-row q r)
+earlier-scaled q k (Input j) e = e
+earlier-scaled q k (Not l) e = e
+earlier-scaled q k (And l r) e = e
+earlier-scaled q k (Or l r) e = e
+earlier-scaled q k (Once l a b) e = e
+earlier-scaled q k (Always l a b) e = e
+earlier-scaled q k (Since l r a b) e = e
+earlier-scaled q k (Rule j l) e = e
+
+pub chained-scaled : (q : ℕ) (rows : List Row) → Chained rows → Chained (scaled-rows q rows)
+chained-scaled q rows chained k lt =
+    subst (Earlier k) (sym (getD-mapped (scaled-row q) (Input 0) rows k))
+    (earlier-scaled q k (row-at rows k) (chained k (omega (arith, length-map rows (scaled-row q)))))

@@ -1,18 +1,18 @@
 -- How many stretches of yes an outlook can have. Assumes nothing.
-use mathlib.Core.Path.{_≡_, refl, sym, ap, subst, _∙_}
-use mathlib.Core.Bool.{Bool, true, false, not, _&&_, _||_, cond}
-use mathlib.Core.List.{List, _++_}
-use mathlib.Core.Logic.{_⊎_, inl, inr, _↔_}
+use mathlib.Core.Path.{_≡_, refl, sym, ap, ap₂, subst, _∙_}
+use mathlib.Core.Bool.{Bool, true, false, not, _&&_, cond}
+use mathlib.Core.List.{List}
+use mathlib.Core.Logic.{_⊎_, inl, inr}
 use Prim.Native.Nat.{ℕ, zero, suc, _+_, _-_, _*_, _/_, _<_, _≤_}
 use native.Mathlib.Nat.{le-div-iff-mul-le}
 use native.Mathlib.Omega.{arith}
 use lib.ListN.{length}
-use Rattle.std.proofs.shelf.Tests.{cases-lt, cases-bool, and-parts, not-true, both-ways}
+use Rattle.std.proofs.shelf.Tests.{cases-lt, and-parts, not-true, both-ways}
 use Rattle.mitl.specs.Formulas.{Formula}
-use Rattle.mitl.specs.Outlook.{from, to, Counts, Marked, outlook}
+use Rattle.mitl.specs.Outlook.{from, to, Marked, outlook}
 use Rattle.mitl.proofs.Outlook.{decides-outlook}
-use Rattle.mitl.specs.Windows.{Window}
 use Rattle.mitl.specs.Memory.{stretches, most-stretches}
+use Rattle.mitl.specs.Laws.{Bounds-stretches}
 
 -- a stretch ends at d
 abbrev ends : (ℕ → Bool) → ℕ → Bool
@@ -68,3 +68,7 @@ ends-apart f h d e lt first second =
 
 pub bounded : (f : Formula) (h : List ℕ) → stretches (outlook f h) (to f) ≤ most-stretches (from f) (to f)
 bounded f h = few-stretches (outlook f h) (to f - from f + 2) (ends-apart f h) (to f) (omega arith)
+
+pub bounds : (a b n : ℕ) → n ≡ most-stretches a b → Bounds-stretches a b n
+bounds a b n is f h start end =
+    subst (λ m. stretches (outlook f h) b ≤ m) (ap₂ most-stretches start end ∙ sym is) (subst (λ m. stretches (outlook f h) m ≤ most-stretches (from f) (to f)) end (bounded f h))

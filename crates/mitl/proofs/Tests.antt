@@ -1,14 +1,13 @@
 -- `sat` decides `Sat`. Assumes nothing.
-use mathlib.Core.Path.{_≡_, refl}
-use mathlib.Core.Bool.{Bool, true, false, not, _&&_, _||_, false≢true}
+use mathlib.Core.Path.{refl}
+use mathlib.Core.Bool.{Bool, true, false, not, _||_, false≢true}
 use mathlib.Core.List.{List}
-use mathlib.Core.Logic.{_⊎_, inl, inr}
-use Prim.Native.Nat.{ℕ, zero, suc, _+_, _*_, _/_, _%_, _^_, _<_, _≤_}
+use Prim.Native.Nat.{ℕ, suc, _+_, _<_, _≤_}
 use native.Mathlib.Omega.{arith}
-use lib.Dec.{leb, eqb}
+use lib.Dec.{leb}
 use Rattle.std.specs.Orderings.{Decides}
-use Rattle.std.proofs.shelf.Ways.{decides-not, decides-and, decides-or, decides-like, decides-below-and, decides-below-or, tells}
-use Rattle.std.proofs.shelf.Tests.{leb-true, le-leb, cases-bool}
+use Rattle.std.proofs.shelf.Ways.{decides-not, decides-and, decides-or, decides-like, decides-below-and, decides-below-or}
+use Rattle.std.proofs.shelf.Tests.{leb-true, le-leb}
 use Rattle.mitl.specs.Formulas.{Formula, input, neg, both, either, once, always, since, Sat, sat}
 use Rattle.mitl.specs.Windows.{Window, window, some-below, all-below}
 

@@ -1,4 +1,5 @@
--- The rows of a rule table along its chain, and how they are read. Assumes nothing.
+-- The rows of a rule table along its chain, how they are read, and the verdict word. Assumes nothing.
+-- A row goes by its place on the chain, from 0. Its operands are rows at earlier places.
 use mathlib.Core.Path.{_≡_}
 use mathlib.Core.Bool.{Bool, true, false, _&&_, cond}
 use mathlib.Core.List.{List, [], _∷_, _++_, map}
@@ -12,7 +13,7 @@ use Rattle.mitl.specs.declared.Row.the-variants.{Input, Not, And, Or, Once, Al
 use Rattle.mitl.specs.Formulas.{Formula, input, neg, both, either, once, always, since, bit, sat}
 use Rattle.mitl.specs.Windows.{Window, some-below}
 
--- the timed rows
+-- the timed rows, those with a window: D, B and S
 abbrev pub is-timed : Row → Bool
 is-timed (Input i) = false
 is-timed (Not l) = false
@@ -34,6 +35,7 @@ Earlier k (Always l a b) = l < k
 Earlier k (Since l r a b) = (l < k) × (r < k)
 Earlier k (Rule i l) = l < k
 
+-- the row at place k
 abbrev pub row-at : List Row → ℕ → Row
 row-at rows k = getD rows k (Input 0)
 
@@ -45,6 +47,7 @@ timed-before rows (suc p) = cond (is-timed (row-at rows p)) 1 0 + timed-before r
 abbrev pub timed-rows : List Row → ℕ
 timed-rows rows = timed-before rows (length rows)
 
+-- all operands are earlier rows
 abbrev pub Chained : List Row → Type 0
 Chained rows = (k : ℕ) → k < length rows → Earlier k (row-at rows k)
 
@@ -63,10 +66,10 @@ Says (Rule i l) h reading t = reading l t ≡ true
 abbrev pub Reads : List Row → List ℕ → (ℕ → ℕ → Bool) → Type 0
 Reads rows h reading = (k : ℕ) → k < length rows → (t : ℕ) → Decides (reading k t) (Says (row-at rows k) h reading t)
 
--- the formula of a row, given those of the rows before it
 abbrev pub formula-at : List Formula → ℕ → Formula
 formula-at fs k = getD fs k (input 0)
 
+-- the formula of a row, given those of the rows before it
 abbrev pub formula-of : List Formula → Row → Formula
 formula-of fs (Input i) = input i
 formula-of fs (Not l) = neg (formula-at fs l)
@@ -82,9 +85,11 @@ abbrev pub along : List Formula → List Row → List Formula
 along fs [] = fs
 along fs (r ∷ rows) = along (fs ++ (formula-of fs r ∷ [])) rows
 
+-- the formulas of the rows, place by place
 abbrev pub formulas : List Row → List Formula
 formulas rows = along [] rows
 
+-- how the row at place k is read at tick t of the history h
 abbrev pub read : List Row → List ℕ → ℕ → ℕ → Bool
 read rows h k t = sat (formula-at (formulas rows) k) h t
 
@@ -93,6 +98,7 @@ abbrev pub word : (ℕ → Bool) → ℕ → ℕ
 word f zero = 0
 word f (suc n) = cond (f n) (2 ^ n) 0 + word f n
 
+-- the row is rule i
 abbrev pub is-rule : ℕ → Row → Bool
 is-rule i (Input j) = false
 is-rule i (Not l) = false
@@ -103,11 +109,20 @@ is-rule i (Always l a b) = false
 is-rule i (Since l r a b) = false
 is-rule i (Rule j l) = eqb i j
 
--- rule i is read as yes at tick t; no where the chain has no rule i
-abbrev pub rule : List Row → List ℕ → ℕ → ℕ → Bool
-rule rows h t i = some-below (λ k. is-rule i (row-at rows k) && read rows h k t) (length rows)
+-- Rule i is yes where v k is how the row at place k is read; no where the chain has no rule i.
+abbrev pub rule-by : List Row → (ℕ → Bool) → ℕ → Bool
+rule-by rows v i = some-below (λ k. is-rule i (row-at rows k) && v k) (length rows)
 
--- shut, since it computes to sixteen terms
+-- rule i is read as yes at tick t
+abbrev pub rule : List Row → List ℕ → ℕ → ℕ → Bool
+rule rows h t i = rule-by rows (λ k. read rows h k t) i
+
+-- no two rules have one number
+abbrev pub Rules-apart : List Row → Type 0
+Rules-apart rows =
+    (i j k l m : ℕ) → j < length rows → k < length rows → row-at rows j ≡ Rule i l → row-at rows k ≡ Rule i m → j ≡ k
+
+-- The verdict word of tick t: bit i is rule i. (Shut, since it computes to sixteen terms.)
 unfoldable pub verdict : List Row → List ℕ → ℕ → ℕ
 verdict rows h t = word (rule rows h t) 16
 
