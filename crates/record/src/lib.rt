@@ -89,34 +89,13 @@ impl RecordFault {
         ensures { λ r. ⌜ r ≡ refusal-of self ⌝ }
     {
         match self {
-            RecordFault::NotTwelve => Refusal {
-                number: 14,
-                place: 0,
-            },
-            RecordFault::UnknownLetter => Refusal {
-                number: 15,
-                place: 0,
-            },
-            RecordFault::BadZero => Refusal {
-                number: 16,
-                place: 1,
-            },
-            RecordFault::BadCar => Refusal {
-                number: 16,
-                place: 2,
-            },
-            RecordFault::BadLength => Refusal {
-                number: 16,
-                place: 4,
-            },
-            RecordFault::BadWord => Refusal {
-                number: 16,
-                place: 8,
-            },
-            RecordFault::NoRoom => Refusal {
-                number: 22,
-                place: 0,
-            },
+            RecordFault::NotTwelve => Refusal::new(14, 0),
+            RecordFault::UnknownLetter => Refusal::new(15, 0),
+            RecordFault::BadZero => Refusal::new(16, 1),
+            RecordFault::BadCar => Refusal::new(16, 2),
+            RecordFault::BadLength => Refusal::new(16, 4),
+            RecordFault::BadWord => Refusal::new(16, 8),
+            RecordFault::NoRoom => Refusal::new(22, 0),
         }
     }
 }

@@ -19,12 +19,17 @@ pub impl fmt::Display for Refusal as RefusalDisplay {
 }
 
 impl Refusal {
-    // The refusal with this number at this place. Whatever the faults that are looked for, in their order, a call
-    // is refused exactly when one of them held.
+    // The refusal with this number at this place.
     pub fn new(number: u32, place: u32) -> Refusal
-        ensures value { λ r. ⌜ r ≡ refusal number place ⌝ }
-        ensures law { λ _. ⌜ One-held ⌝ }
+        ensures { λ r. ⌜ r ≡ refusal number place ⌝ }
     {
         Refusal { number, place }
     }
+}
+
+// Whatever faults are looked for, and in whatever order: there is a refusal exactly when one of them holds.
+pub fn refused_exactly_when() -> u8
+    ensures { λ r. ⌜ r ≡ 0 ⌝ ∗ ⌜ One-held ⌝ }
+{
+    0
 }
