@@ -1,0 +1,69 @@
+//! The window memory that keeps its marks as the bits of machine words.
+ghost use mathlib.Core.Path.{_≡_};
+ghost use mathlib.Core.Bool.{Bool, true, false, not, _&&_, _||_};
+ghost use Prim.Native.Nat.{ℕ, _+_, _-_, _*_, _/_, _%_, _<_, _≤_};
+ghost use lib.Dec.{leb, ltb};
+ghost use lib.ListN.{length, getD};
+ghost use Rattle.mitl.specs.Formulas.{bit};
+ghost use Rattle.bit_marks.specs.Marks.{bits-admit, marked, ends-by, sound, of-bits, bits-mean};
+
+const LIMIT: u32 = 1_000;
+
+// A window and its marks: mark d is bit d % 64 of word d / 64.
+#[derive(Clone, Copy)]
+pub struct BitMarks {
+    a: u32,
+    b: u32,
+    words: [u64; 16],
+}
+
+// Whether bit k of the word is set.
+fn has(word: u64, k: u32) -> bool
+    requires { ⌜ k < 64 ⌝ }
+    ensures { λ r. ⌜ r ≡ bit k word ⌝ }
+{
+    (word >> k) & 1 == 1
+}
+
+// Word `at` with the bits of the marks below `end`.
+fn below(end: u32, at: u32) -> u64
+    requires { ⌜ at < 16 ⌝ }
+    ensures { λ r. ⌜ ((k : ℕ) → k < 64 → bit k r ≡ ltb (64 * at + k) end) ⌝ }
+{
+    let count = end.saturating_sub(64 * at);
+    if count < 64 {
+        (1 << count) - 1
+    } else {
+        u64::MAX
+    }
+}
+
+// Word `at` with the bits of the marks from `first` on and below `end`.
+fn between(first: u32, end: u32, at: u32) -> u64
+    requires { ⌜ at < 16 ⌝ }
+    ensures { λ r. ⌜ ((k : ℕ) → k < 64 → bit k r ≡ (leb first (64 * at + k) && ltb (64 * at + k) end)) ⌝ }
+{
+    below(end, at) & !below(first, at)
+}
+
+// Word `at`, which is zero beyond the words.
+fn word_at(words: &[u64; 16], at: u32) -> u64
+    ensures { λ r. ⌜ r ≡ getD (now (words .entry)) at 0 ⌝ }
+{
+    if at < 16 { words[at as usize] } else { 0 }
+}
+
+// Word `at` of the marks moved down by n places.
+fn moved(words: &[u64; 16], n: u32, at: u32) -> u64
+    requires { ⌜ at < 16 ⌝ }
+    ensures { λ r. ⌜ ((k : ℕ) → k < 64 → bit k r ≡ marked (now (words .entry)) (64 * at + k + n)) ⌝ }
+{
+    let whole = at + n / 64;
+    let low = word_at(words, whole);
+    let by = n % 64;
+    if by == 0 {
+        low
+    } else {
+        (low >> by) | (word_at(words, whole + 1) << (64 - by))
+    }
+}
