@@ -1,17 +1,22 @@
 -- Marks in words: one place, a move by whole words and bits. Assumes nothing.
-use mathlib.Core.Path.{_≡_, refl, sym, ap, ap₂, _∙_}
+use mathlib.Core.Path.{_≡_, refl, sym, ap, ap₂, subst, _∙_}
 use mathlib.Core.Bool.{Bool, true, false, not, _&&_, _||_}
 use mathlib.Core.List.{List}
 use mathlib.Core.Logic.{⊎-elim}
 use Prim.Native.Nat.{ℕ, zero, suc, _+_, _-_, _*_, _/_, _%_, _^_, _<_, _≤_}
 use native.Mathlib.Omega.{arith}
-use lib.Bits.{bitOr}
-use lib.ListN.{getD, length}
-use Rattle.std.proofs.shelf.Lists.{getD-past}
-use Rattle.std.proofs.shelf.Tests.{cases-lt, or-from}
+use lib.Bits.{bitOr, bitAnd}
+use lib.Dec.{leb, ltb}
+use lib.ListN.{getD, length, set}
+use Rattle.std.proofs.shelf.Lists.{getD-past, getD-set-same, getD-set-other}
+use Rattle.std.proofs.shelf.Bits.{and-le-l}
+use Rattle.std.proofs.shelf.Tests.{cases-lt, le-leb, leb-true, lt-ltb, le-ltb, and-left, and-right, and-cases, true≢false, false≢true}
+use Rattle.std.proofs.shelf.Ways.{decides-like, decides-below-and}
+use Rattle.std.specs.Orderings.{Decides}
+use Rattle.mitl.specs.Windows.{all-below}
 use Rattle.mitl.specs.Formulas.{bit}
-use Rattle.bit_marks.specs.Marks.{marked}
-use Rattle.bit_marks.proofs.Bits.{or-bit, shr-bit, shl-high, shl-low, mod-bit, high-bit, zero-bit}
+use Rattle.bit_marks.specs.Marks.{marked, ends-by}
+use Rattle.bit_marks.proofs.Bits.{or-bit, and-bit, not-bit, no-bits, shr-bit, shl-high, shl-low, mod-bit, high-bit, zero-bit}
 
 -- place k of word i
 pub at-place : (ws : List ℕ) (d i k : ℕ) → k < 64 → d ≡ 64 * i + k → marked ws d ≡ bit k (getD ws i 0)
@@ -45,3 +50,67 @@ joined-bit ws i k s d fit h p q e =
     across : 64 ≤ k + s → (bit (k + s) (getD ws i 0) || bit k (getD ws (i + 1) 0 * 2 ^ (64 - s))) ≡ marked ws d
     across l = ap₂ _||_ (high-bit (k + s) 64 (getD ws i 0) fit l) (shl-high k (getD ws (i + 1) 0) (64 - s) (omega arith))
         ∙ sym (at-place ws d (i + 1) (k - (64 - s)) (omega arith) (omega arith))
+
+-- words written one after another: the marks so far are F, and so are those of the next word
+pub set-more : (ws : List ℕ) (i v : ℕ) (F : ℕ → Bool) → i < length ws → ((d : ℕ) → d < 64 * i → marked ws d ≡ F d) → ((k : ℕ) → k < 64 → bit k v ≡ F (64 * i + k))
+    → (d : ℕ) → d < 64 * (i + 1) → marked (set ws i v) d ≡ F d
+set-more ws i v F p old new d h = ⊎-elim before here (cases-lt d (64 * i))
+  where
+    before : d < 64 * i → marked (set ws i v) d ≡ F d
+    before l =
+        let other : d / 64 ≡ i → ⊥ = λ e. omega arith in
+        ap (bit (d % 64)) (getD-set-other ws i (d / 64) v 0 other) ∙ old d l
+
+    here : 64 * i ≤ d → marked (set ws i v) d ≡ F d
+    here l =
+        let e : d ≡ 64 * i + (d - 64 * i) = omega arith in
+        let k : d - 64 * i < 64 = omega arith in
+        at-place (set ws i v) d i (d - 64 * i) k e ∙ ap (bit (d - 64 * i)) (getD-set-same ws i v 0 p) ∙ new (d - 64 * i) k ∙ ap F (sym e)
+
+none-on : (x y : Bool) → (not (x && y) ≡ true → x ≡ true → y ≡ false) × ((x ≡ true → y ≡ false) → not (x && y) ≡ true)
+none-on true true = (λ e _. sym e, λ f. sym (f refl))
+none-on true false = (λ _ _. refl, λ _. refl)
+none-on false y = (λ _ e. absurd (false≢true e), λ _. refl)
+
+-- no bit from b on: of every mark
+pub ends-decided : (b : ℕ) (ws : List ℕ) → Decides (ends-by b ws) ((d : ℕ) → b ≤ d → marked ws d ≡ false)
+unfolding ends-by
+ends-decided b ws =
+    decides-like (ends-by b ws) (λ f d h. ⊎-elim (λ l. f d l h) (past-words ws d) (cases-lt d (64 * length ws))) (λ f d _ h. f d h)
+    (decides-below-and (λ d. not (leb b d && marked ws d)) (λ d. b ≤ d → marked ws d ≡ false) (all-below (λ d. not (leb b d && marked ws d))) each refl (λ _. refl) (64 * length ws))
+  where
+    each : (d : ℕ) → Decides (not (leb b d && marked ws d)) (b ≤ d → marked ws d ≡ false)
+    each d = (
+      λ e h. none-on (leb b d) (marked ws d) .0 e (le-leb b d h),
+      λ f. none-on (leb b d) (marked ws d) .1 (λ e. f (leb-true b d e)),
+    )
+
+-- word i without its bits below b, where m has those
+module _ (ws : List ℕ) (b i w m : ℕ) (read : w ≡ getD ws i 0) (fits : m < 2 ^ 64) (low : (k : ℕ) → k < 64 → bit k m ≡ ltb (64 * i + k) b) where
+  rest : ℕ
+  rest = bitAnd w ((2 ^ 64 - 1) - m)
+
+  rest-bit : (k : ℕ) → k < 64 → bit k rest ≡ (marked ws (64 * i + k) && not (ltb (64 * i + k) b))
+  unfolding rest
+  rest-bit k h =
+      and-bit k w ((2 ^ 64 - 1) - m)
+      ∙ ap₂ _&&_ (ap (bit k) read ∙ sym (at-place ws (64 * i + k) i k h refl)) (not-bit k 64 m h fits ∙ ap not (low k h))
+
+  -- where that is zero no mark of the word from b on is set
+  pub rest-none : bitAnd w ((2 ^ 64 - 1) - m) ≡ 0 → (d : ℕ) → b ≤ d → 64 * i ≤ d → d < 64 * (i + 1) → marked ws d ≡ false
+  unfolding rest
+  rest-none e d h p q =
+      let k : d - 64 * i < 64 = omega arith in
+      let place : 64 * i + (d - 64 * i) ≡ d = omega arith in
+      let off : (marked ws (64 * i + (d - 64 * i)) && not (ltb (64 * i + (d - 64 * i)) b)) ≡ false = sym (rest-bit (d - 64 * i) k) ∙ ap (bit (d - 64 * i)) e ∙ zero-bit (d - 64 * i) in
+      let kept : not (ltb d b) ≡ true = ap not (le-ltb d b h) in
+      ⊎-elim (λ (x : marked ws d ≡ false). x) (λ x. absurd (true≢false (sym kept ∙ x)))
+      (and-cases (marked ws d) (not (ltb d b)) (subst (λ n. (marked ws n && not (ltb n b)) ≡ false) place off))
+
+  -- and where no mark from b on is set that is zero
+  pub rest-zero : w < 2 ^ 64 → ((d : ℕ) → b ≤ d → marked ws d ≡ false) → bitAnd w ((2 ^ 64 - 1) - m) ≡ 0
+  unfolding rest
+  rest-zero p none = no-bits 64 rest (omega (arith, and-le-l w ((2 ^ 64 - 1) - m))) (λ k h. rest-bit k h ∙ off k)
+    where
+      off : (k : ℕ) → (marked ws (64 * i + k) && not (ltb (64 * i + k) b)) ≡ false
+      off k = ⊎-elim (λ (l : 64 * i + k < b). and-right (marked ws (64 * i + k)) (not (ltb (64 * i + k) b)) (ap not (lt-ltb (64 * i + k) b l))) (λ (l : b ≤ 64 * i + k). and-left (marked ws (64 * i + k)) (not (ltb (64 * i + k) b)) (none (64 * i + k) l)) (cases-lt (64 * i + k) b)

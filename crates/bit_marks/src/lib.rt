@@ -67,3 +67,45 @@ fn moved(words: &[u64; 16], n: u32, at: u32) -> u64
         (low >> by) | (word_at(words, whole + 1) << (64 - by))
     }
 }
+
+// How many words hold marks below b.
+fn words_for(b: u32) -> u32
+    requires { ⌜ b ≤ 1000 ⌝ }
+    ensures enough { λ r. ⌜ b ≤ 64 * r ⌝ }
+    ensures within { λ r. ⌜ r ≤ 16 ⌝ }
+{
+    (b + 63) / 64
+}
+
+// Whether no mark from b on is set.
+fn all_below(words: &[u64; 16], b: u32) -> bool
+    ensures { λ r. ⌜ r ≡ ends-by b (now (words .entry)) ⌝ }
+{
+    for at in b / 64..16 {
+        if word_at(words, at) & !below(b, at) != 0 {
+            return false;
+        }
+    }
+    true
+}
+
+// Of marks below b: those marks moved down by n places, and the marks from `first` on and below `end` set.
+fn advanced(words: &[u64; 16], b: u32, n: u32, first: u32, end: u32) -> [u64; 16]
+    requires small { ⌜ b ≤ 1000 ⌝ }
+    requires within { ⌜ ends-by b (now words) ≡ true ⌝ }
+    requires inside { ⌜ end ≤ b ⌝ }
+    ensures { λ r. ⌜ ((d : ℕ) → marked r d ≡ (marked (now (words .entry)) (d + n) || (leb first d && ltb d end))) ⌝ }
+{
+    let mut after = [0; 16];
+    for at in 0..words_for(b) {
+        after[at as usize] = moved(words, n, at) | between(first, end, at);
+    }
+    after
+}
+
+// Mark d.
+fn mark(words: &[u64; 16], d: u32) -> bool
+    ensures { λ r. ⌜ r ≡ marked (now (words .entry)) d ⌝ }
+{
+    has(word_at(words, d / 64), d % 64)
+}
