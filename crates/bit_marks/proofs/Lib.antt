@@ -1,2 +1,4 @@
 pub mod Bits
 pub mod Words
+pub mod Stretches
+pub mod Means

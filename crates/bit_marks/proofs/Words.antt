@@ -7,13 +7,13 @@ use Prim.Native.Nat.{ℕ, zero, suc, _+_, _-_, _*_, _/_, _%_, _^_, _<_, _≤_}
 use native.Mathlib.Omega.{arith}
 use lib.Bits.{bitOr, bitAnd}
 use lib.Dec.{leb, ltb}
-use lib.ListN.{getD, length, set}
+use lib.ListN.{getD, length, set, replicate}
 use Rattle.std.proofs.shelf.Lists.{getD-past, getD-set-same, getD-set-other}
 use Rattle.std.proofs.shelf.Bits.{and-le-l}
 use Rattle.std.proofs.shelf.Tests.{cases-lt, le-leb, leb-true, lt-ltb, le-ltb, and-left, and-right, and-cases, true≢false, false≢true}
-use Rattle.std.proofs.shelf.Ways.{decides-like, decides-below-and}
+use Rattle.std.proofs.shelf.Ways.{decides-like}
 use Rattle.std.specs.Orderings.{Decides}
-use Rattle.mitl.specs.Windows.{all-below}
+use Rattle.mitl.proofs.Tests.{decides-all}
 use Rattle.mitl.specs.Formulas.{bit}
 use Rattle.bit_marks.specs.Marks.{marked, ends-by}
 use Rattle.bit_marks.proofs.Bits.{or-bit, and-bit, not-bit, no-bits, shr-bit, shl-high, shl-low, mod-bit, high-bit, zero-bit}
@@ -30,6 +30,11 @@ pub past-words : (ws : List ℕ) (d : ℕ) → 64 * length ws ≤ d → marked w
 past-words ws d h =
     let far : length ws ≤ d / 64 = omega arith in
     ap (bit (d % 64)) (getD-past ws (d / 64) 0 far) ∙ zero-bit (d % 64)
+
+pub zeros : (n i : ℕ) → getD {A = ℕ} (replicate n 0) i 0 ≡ 0
+zeros zero i = refl
+zeros (suc n) zero = refl
+zeros (suc n) (suc i) = zeros n i
 
 or-no : (x : Bool) → (x || false) ≡ x
 or-no true = refl
@@ -77,7 +82,7 @@ pub ends-decided : (b : ℕ) (ws : List ℕ) → Decides (ends-by b ws) ((d : �
 unfolding ends-by
 ends-decided b ws =
     decides-like (ends-by b ws) (λ f d h. ⊎-elim (λ l. f d l h) (past-words ws d) (cases-lt d (64 * length ws))) (λ f d _ h. f d h)
-    (decides-below-and (λ d. not (leb b d && marked ws d)) (λ d. b ≤ d → marked ws d ≡ false) (all-below (λ d. not (leb b d && marked ws d))) each refl (λ _. refl) (64 * length ws))
+    (decides-all (λ d. not (leb b d && marked ws d)) (λ d. b ≤ d → marked ws d ≡ false) each (64 * length ws))
   where
     each : (d : ℕ) → Decides (not (leb b d && marked ws d)) (b ≤ d → marked ws d ≡ false)
     each d = (

@@ -1,10 +1,11 @@
 //! The window memory that keeps its marks as the bits of machine words.
 ghost use mathlib.Core.Path.{_≡_};
-ghost use mathlib.Core.Bool.{Bool, true, false, not, _&&_, _||_};
+ghost use mathlib.Core.Bool.{Bool, true, false, not, cond, _&&_, _||_};
 ghost use Prim.Native.Nat.{ℕ, _+_, _-_, _*_, _/_, _%_, _<_, _≤_};
 ghost use lib.Dec.{leb, ltb};
 ghost use lib.ListN.{length, getD};
 ghost use Rattle.mitl.specs.Formulas.{bit};
+ghost use Rattle.mitl.specs.Memory.{clean, took, ahead, Lasts, stretches, new-memory, counted};
 ghost use Rattle.bit_marks.specs.Marks.{bits-admit, marked, ends-by, sound, of-bits, bits-mean};
 
 const LIMIT: u32 = 1_000;
@@ -15,6 +16,38 @@ pub struct BitMarks {
     a: u32,
     b: u32,
     words: [u64; 16],
+}
+
+// Whether there are marks enough for the window from a to b.
+fn fits(a: u32, b: u32) -> bool
+    ensures { λ r. ⌜ r ≡ bits-admit a b ⌝ }
+{
+    a < b && b <= LIMIT
+}
+
+// The window from a to b with all marks no.
+fn blank(a: u32, b: u32) -> BitMarks
+    requires { ⌜ bits-admit a b ≡ true ⌝ }
+    ensures sound { λ r. ⌜ sound r ≡ true ⌝ }
+    ensures means { λ r. ⌜ bits-mean r ≡ clean a b ⌝ }
+{
+    BitMarks {
+        a,
+        b,
+        words: [0; 16],
+    }
+}
+
+// The marks themselves where their content is sound, else a new memory.
+fn settled(m: BitMarks) -> BitMarks
+    ensures sound { λ r. ⌜ sound r ≡ true ⌝ }
+    ensures means { λ r. ⌜ bits-mean r ≡ bits-mean m ⌝ }
+{
+    if fits(m.a, m.b) && all_below(&m.words, m.b) {
+        m
+    } else {
+        blank(0, 1)
+    }
 }
 
 // Whether bit k of the word is set.
@@ -108,4 +141,69 @@ fn mark(words: &[u64; 16], d: u32) -> bool
     ensures { λ r. ⌜ r ≡ marked (now (words .entry)) d ⌝ }
 {
     has(word_at(words, d / 64), d % 64)
+}
+
+// Word `at` with the bits of the marks that end a stretch: they are yes, and the next is no.
+fn ends(words: &[u64; 16], at: u32) -> u64
+    requires { ⌜ at < 16 ⌝ }
+    ensures { λ r. ⌜ ((k : ℕ) → k < 64 → bit k r ≡ (marked (now (words .entry)) (64 * at + k) && not (marked (now (words .entry)) (64 * at + k + 1)))) ⌝ }
+{
+    word_at(words, at) & !moved(words, 1, at)
+}
+
+// How many unbroken stretches of yes the marks below b have, with none from b on.
+fn stretch_count(words: &[u64; 16], b: u32) -> u32
+    requires small { ⌜ b ≤ 1000 ⌝ }
+    requires within { ⌜ ends-by b (now words) ≡ true ⌝ }
+    ensures { λ r. ⌜ r ≡ stretches (marked (now (words .entry))) b ⌝ }
+{
+    let mut count = 0;
+    for at in 0..words_for(b) {
+        count += ends(words, at).count_ones();
+    }
+    count
+}
+
+// The verdict d ticks ahead, if the operand stays as it is.
+fn verdict(m: &BitMarks, operand: bool, d: u32) -> bool
+    ensures { λ r. ⌜ r ≡ ahead (now (m .entry) .a) operand (marked (now (m .entry) .words)) d ⌝ }
+{
+    mark(&m.words, d) || operand && m.a <= d
+}
+
+// The verdict of the next tick and how long it lasts: from tick b on the verdict is the operand.
+fn lasting(m: &BitMarks, operand: bool) -> (bool, Option<u32>)
+    requires { ⌜ sound (now m) ≡ true ⌝ }
+    ensures next { λ r. ⌜ r .0 ≡ ahead (now (m .entry) .a) operand (marked (now (m .entry) .words)) 0 ⌝ }
+    ensures lasts { λ r. ⌜ Lasts (ahead (now (m .entry) .a) operand (marked (now (m .entry) .words))) (r .0) (r .1) ⌝ }
+{
+    let next = verdict(m, operand, 0);
+    for d in 1..m.b + 1 {
+        if verdict(m, operand, d) != next {
+            return (next, Some(d));
+        }
+    }
+    (next, None)
+}
+
+// Where the marks end that n ticks with this operand set: at b, or at 0 where they set none.
+fn set_end(b: u32, operand: bool, n: u32) -> u32
+    ensures { λ r. ⌜ r ≡ cond (operand && ltb 0 n) b 0 ⌝ }
+{
+    if operand && n > 0 { b } else { 0 }
+}
+
+// Sound marks after n ticks at which the operand has this value.
+fn taken_by(m: BitMarks, operand: bool, n: u32) -> BitMarks
+    requires { ⌜ sound m ≡ true ⌝ }
+    ensures { λ r. ⌜ bits-mean r ≡ took operand n (bits-mean m) ⌝ }
+{
+    // the marks from a - n on and below b come within reach of the ticks taken
+    let end = set_end(m.b, operand, n);
+    let words = advanced(&m.words, m.b, n, m.a.saturating_sub(n), end);
+    BitMarks {
+        a: m.a,
+        b: m.b,
+        words,
+    }
 }

@@ -2,23 +2,18 @@
 use mathlib.Core.Path.{_≡_, refl, sym, ap, ap₂, _∙_}
 use mathlib.Core.Bool.{Bool, false, _&&_, _||_}
 use mathlib.Core.Logic.{⊎-elim, _≢_}
-use Prim.Native.Nat.{ℕ, zero, suc, _+_, _*_, _/_, _%_, _<_, _≤_}
+use Prim.Native.Nat.{ℕ, _+_, _*_, _/_, _%_, _<_, _≤_}
 use native.Mathlib.Omega.{arith}
 use lib.Dec.{leb, ltb}
 use lib.Bits.{bitOr}
-use lib.ListN.{length-set, getD, length, replicate}
+use lib.ListN.{length-set, getD, length}
 use Rattle.std.proofs.shelf.Lists.{getD-set-other}
 use Rattle.std.proofs.shelf.Tests.{cases-lt, or-from, and-right, le-ltb}
 use Rattle.bit_marks.specs.Marks.{marked}
 use Rattle.mitl.specs.Formulas.{bit}
 use Rattle.bit_marks.proofs.Bits.{or-bit, zero-bit}
-use Rattle.bit_marks.proofs.Words.{set-more, ends-decided}
+use Rattle.bit_marks.proofs.Words.{zeros, set-more, ends-decided}
 use Rattle.bit_marks.proofs.advanced.Needs as need
-
-zeros : (n i : ℕ) → getD {A = ℕ} (replicate n 0) i 0 ≡ 0
-zeros zero i = refl
-zeros (suc n) zero = refl
-zeros (suc n) (suc i) = zeros n i
 
 pub loop-at-holds : need.loop-at-holds
 loop-at-holds c = (refl, λ d h. absurd (omega arith), λ i h. zeros 16 i)
