@@ -1,4 +1,4 @@
 pub mod Bits
-pub mod Words
+pub mod Places
 pub mod Stretches
 pub mod Means

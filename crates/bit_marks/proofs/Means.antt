@@ -1,18 +1,19 @@
 -- What sound marks mean, and what each function makes of that. Assumes nothing.
-use mathlib.Core.Path.{_≡_, refl, sym, ap, ap₂, _∙_, fun-ext}
+use mathlib.Core.Path.{_≡_, refl, sym, ap, ap₂, subst, _∙_, fun-ext}
+use mathlib.Core.Logic.{⊎-elim}
 use mathlib.Core.Bool.{Bool, true, false, not, cond, _&&_, _||_}
 use mathlib.Core.List.{List}
 use Prim.Native.Nat.{ℕ, zero, suc, _+_, _-_, _<_, _≤_}
 use native.Mathlib.Omega.{arith}
 use lib.Dec.{leb, ltb}
-use Rattle.std.proofs.shelf.Tests.{cond-true, and-from, and-parts, and-right, or-from, le-ltb, le-leb, ltb-true, leb-true}
+use Rattle.std.proofs.shelf.Tests.{cond-true, cond-false, cases-bool, and-from, and-parts, and-right, or-from, le-ltb, le-leb, ltb-true, leb-true}
 use Rattle.std.proofs.shelf.Ways.{tells, same-from-decides, decides-like, decides-and, decides-ltb}
 use Rattle.mitl.proofs.Tests.{decides-leb, decides-some}
 use Rattle.mitl.specs.Windows.{sound-window}
 use Rattle.mitl.specs.Memory.{Meaning, clean, new-memory, took, taken, meets, ahead}
 use Rattle.bit_marks.specs.Marks.{bits-admit, marked, ends-by, sound, of-bits, bits-mean}
 use Rattle.bit_marks.specs.declared.BitMarks.{BitMarks}
-use Rattle.bit_marks.proofs.Words.{ends-decided}
+use Rattle.bit_marks.proofs.Places.{ends-decided}
 
 pub when-sound : (m : BitMarks) → sound m ≡ true → bits-mean m ≡ of-bits m
 when-sound m e = cond-true (sound m) (of-bits m) new-memory e
@@ -29,6 +30,18 @@ parts m e =
     let q = and-parts (sound-window (m .a) (m .b)) (leb (m .b) 1000) (p .0) in
     let s = and-parts (ltb (m .a) (m .b)) (leb (m .b) 864000) (q .0) in
     record { order = ltb-true _ _ (s .0); small = leb-true _ _ (q .1); within = p .1; none = ends-decided (m .b) (m .words) .0 (p .1) }
+
+-- past the marks there is no yes
+pub marks-within : (m : BitMarks) (d : ℕ) → bits-mean m .b ≤ d → bits-mean m .mark d ≡ false
+marks-within m d h = ⊎-elim kept new (cases-bool (sound m))
+  where
+    kept : sound m ≡ true → bits-mean m .mark d ≡ false
+    kept e =
+        let w = when-sound m e in
+        ap (λ (t : Meaning). t .mark d) w ∙ parts m e .none d (subst (λ (t : Meaning). t .b ≤ d) w h)
+
+    new : sound m ≡ false → bits-mean m .mark d ≡ false
+    new e = ap (λ (t : Meaning). t .mark d) (cond-false (sound m) (of-bits m) new-memory e)
 
 -- from b on the verdict is the operand
 pub past-ahead : (m : BitMarks) → sound m ≡ true → (v : Bool) (d : ℕ) → m .b ≤ d → ahead (m .a) v (marked (m .words)) d ≡ v

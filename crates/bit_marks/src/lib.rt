@@ -1,16 +1,26 @@
 //! The window memory that keeps its marks as the bits of machine words.
+//!
+//! It serves every window with at most a thousand marks. Content that it never makes, a window that it does not
+//! serve or a bit beyond the marks, means a new memory, and every function behaves so on it.
 ghost use mathlib.Core.Path.{_≡_};
-ghost use mathlib.Core.Bool.{Bool, true, false, not, cond, _&&_, _||_};
-ghost use Prim.Native.Nat.{ℕ, _+_, _-_, _*_, _/_, _%_, _<_, _≤_};
-ghost use lib.Dec.{leb, ltb};
-ghost use lib.ListN.{length, getD};
-ghost use Rattle.mitl.specs.Formulas.{bit};
-ghost use Rattle.mitl.specs.Memory.{clean, took, ahead, Lasts, stretches, new-memory, counted};
-ghost use Rattle.bit_marks.specs.Marks.{bits-admit, marked, ends-by, sound, of-bits, bits-mean};
+ghost use mathlib.Core.Bool.{Bool, true, false, cond, _&&_};
+ghost use Prim.Native.Nat.{ℕ, _<_, _≤_};
+ghost use lib.Dec.{ltb};
+ghost use Rattle.mitl.specs.Memory.{clean, new-memory, took, ahead, Lasts};
+ghost use Rattle.bit_marks.specs.Marks.{bits-admit, marked, sound, bits-mean};
+use window::Admission;
+use window::WindowMemory;
+use words::advanced;
+use words::all_below;
+use words::mark;
+use words::stretch_count;
 
+mod words;
+
+// The most marks that are kept.
 const LIMIT: u32 = 1_000;
 
-// A window and its marks: mark d is bit d % 64 of word d / 64.
+// A window and its marks.
 #[derive(Clone, Copy)]
 pub struct BitMarks {
     a: u32,
@@ -48,120 +58,6 @@ fn settled(m: BitMarks) -> BitMarks
     } else {
         blank(0, 1)
     }
-}
-
-// Whether bit k of the word is set.
-fn has(word: u64, k: u32) -> bool
-    requires { ⌜ k < 64 ⌝ }
-    ensures { λ r. ⌜ r ≡ bit k word ⌝ }
-{
-    (word >> k) & 1 == 1
-}
-
-// Word `at` with the bits of the marks below `end`.
-fn below(end: u32, at: u32) -> u64
-    requires { ⌜ at < 16 ⌝ }
-    ensures { λ r. ⌜ ((k : ℕ) → k < 64 → bit k r ≡ ltb (64 * at + k) end) ⌝ }
-{
-    let count = end.saturating_sub(64 * at);
-    if count < 64 {
-        (1 << count) - 1
-    } else {
-        u64::MAX
-    }
-}
-
-// Word `at` with the bits of the marks from `first` on and below `end`.
-fn between(first: u32, end: u32, at: u32) -> u64
-    requires { ⌜ at < 16 ⌝ }
-    ensures { λ r. ⌜ ((k : ℕ) → k < 64 → bit k r ≡ (leb first (64 * at + k) && ltb (64 * at + k) end)) ⌝ }
-{
-    below(end, at) & !below(first, at)
-}
-
-// Word `at`, which is zero beyond the words.
-fn word_at(words: &[u64; 16], at: u32) -> u64
-    ensures { λ r. ⌜ r ≡ getD (now (words .entry)) at 0 ⌝ }
-{
-    if at < 16 { words[at as usize] } else { 0 }
-}
-
-// Word `at` of the marks moved down by n places.
-fn moved(words: &[u64; 16], n: u32, at: u32) -> u64
-    requires { ⌜ at < 16 ⌝ }
-    ensures { λ r. ⌜ ((k : ℕ) → k < 64 → bit k r ≡ marked (now (words .entry)) (64 * at + k + n)) ⌝ }
-{
-    let whole = at + n / 64;
-    let low = word_at(words, whole);
-    let by = n % 64;
-    if by == 0 {
-        low
-    } else {
-        (low >> by) | (word_at(words, whole + 1) << (64 - by))
-    }
-}
-
-// How many words hold marks below b.
-fn words_for(b: u32) -> u32
-    requires { ⌜ b ≤ 1000 ⌝ }
-    ensures enough { λ r. ⌜ b ≤ 64 * r ⌝ }
-    ensures within { λ r. ⌜ r ≤ 16 ⌝ }
-{
-    (b + 63) / 64
-}
-
-// Whether no mark from b on is set.
-fn all_below(words: &[u64; 16], b: u32) -> bool
-    ensures { λ r. ⌜ r ≡ ends-by b (now (words .entry)) ⌝ }
-{
-    for at in b / 64..16 {
-        if word_at(words, at) & !below(b, at) != 0 {
-            return false;
-        }
-    }
-    true
-}
-
-// Of marks below b: those marks moved down by n places, and the marks from `first` on and below `end` set.
-fn advanced(words: &[u64; 16], b: u32, n: u32, first: u32, end: u32) -> [u64; 16]
-    requires small { ⌜ b ≤ 1000 ⌝ }
-    requires within { ⌜ ends-by b (now words) ≡ true ⌝ }
-    requires inside { ⌜ end ≤ b ⌝ }
-    ensures { λ r. ⌜ ((d : ℕ) → marked r d ≡ (marked (now (words .entry)) (d + n) || (leb first d && ltb d end))) ⌝ }
-{
-    let mut after = [0; 16];
-    for at in 0..words_for(b) {
-        after[at as usize] = moved(words, n, at) | between(first, end, at);
-    }
-    after
-}
-
-// Mark d.
-fn mark(words: &[u64; 16], d: u32) -> bool
-    ensures { λ r. ⌜ r ≡ marked (now (words .entry)) d ⌝ }
-{
-    has(word_at(words, d / 64), d % 64)
-}
-
-// Word `at` with the bits of the marks that end a stretch: they are yes, and the next is no.
-fn ends(words: &[u64; 16], at: u32) -> u64
-    requires { ⌜ at < 16 ⌝ }
-    ensures { λ r. ⌜ ((k : ℕ) → k < 64 → bit k r ≡ (marked (now (words .entry)) (64 * at + k) && not (marked (now (words .entry)) (64 * at + k + 1)))) ⌝ }
-{
-    word_at(words, at) & !moved(words, 1, at)
-}
-
-// How many unbroken stretches of yes the marks below b have, with none from b on.
-fn stretch_count(words: &[u64; 16], b: u32) -> u32
-    requires small { ⌜ b ≤ 1000 ⌝ }
-    requires within { ⌜ ends-by b (now words) ≡ true ⌝ }
-    ensures { λ r. ⌜ r ≡ stretches (marked (now (words .entry))) b ⌝ }
-{
-    let mut count = 0;
-    for at in 0..words_for(b) {
-        count += ends(words, at).count_ones();
-    }
-    count
 }
 
 // The verdict d ticks ahead, if the operand stays as it is.
@@ -205,5 +101,55 @@ fn taken_by(m: BitMarks, operand: bool, n: u32) -> BitMarks
         a: m.a,
         b: m.b,
         words,
+    }
+}
+
+pub impl Admission for BitMarks as BitAdmission {
+    ghost admitted = { bits-admit };
+
+    fn admits(a: u32, b: u32) -> bool {
+        fits(a, b)
+    }
+}
+
+pub impl WindowMemory for BitMarks as BitMemory {
+    ghost meaning = { bits-mean };
+
+    fn new() -> BitMarks {
+        blank(0, 1)
+    }
+
+    fn prepare(&mut self, a: u32, b: u32) -> bool {
+        if fits(a, b) {
+            *self = blank(a, b);
+            true
+        } else {
+            false
+        }
+    }
+
+    fn clear(&mut self) {
+        let m = settled(*self);
+        *self = blank(m.a, m.b);
+    }
+
+    fn look(&self, d: u32) -> bool {
+        let m = settled(*self);
+        mark(&m.words, d)
+    }
+
+    fn take(&mut self, operand: bool, n: u32) {
+        let m = settled(*self);
+        *self = taken_by(m, operand, n);
+    }
+
+    fn run(&self, operand: bool) -> (bool, Option<u32>) {
+        let m = settled(*self);
+        lasting(&m, operand)
+    }
+
+    fn count(&self) -> u32 {
+        let m = settled(*self);
+        stretch_count(&m.words, m.b)
     }
 }

@@ -6,7 +6,7 @@ use lib.ListN.{replicate}
 use Rattle.mitl.specs.Formulas.{bit}
 use Rattle.bit_marks.specs.Marks.{marked}
 use Rattle.bit_marks.proofs.Bits.{zero-bit}
-use Rattle.bit_marks.proofs.Words.{zeros}
+use Rattle.bit_marks.proofs.Places.{zeros}
 use Rattle.bit_marks.proofs.Means.{marks-sound, marks-mean}
 use Rattle.bit_marks.proofs.blank.Needs as need
 

@@ -2,7 +2,7 @@
 use mathlib.Core.Path.{sym}
 use native.Mathlib.Omega.{arith}
 use Rattle.std.proofs.shelf.Lists.{getD-past}
-use Rattle.bit_marks.proofs.word_at.Needs as need
+use Rattle.bit_marks.proofs.words.word_at.Needs as need
 
 pub returns-else-at-lt16 : need.returns-else-at-lt16
 returns-else-at-lt16 c = sym (getD-past (c .args .words .now) (c .args .at) 0 (omega arith))

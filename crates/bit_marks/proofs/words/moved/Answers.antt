@@ -4,8 +4,8 @@ use Prim.Native.Nat.{ℕ, _+_, _-_, _*_, _/_, _%_, _^_, _<_}
 use native.Mathlib.Omega.{arith}
 use lib.Bits.{bitOr}
 use Rattle.mitl.specs.Formulas.{bit}
-use Rattle.bit_marks.proofs.Words.{joined-bit}
-use Rattle.bit_marks.proofs.moved.Needs as need
+use Rattle.bit_marks.proofs.Places.{joined-bit}
+use Rattle.bit_marks.proofs.words.moved.Needs as need
 
 pub returns-else-by-eq0 : need.returns-else-by-eq0
 returns-else-by-eq0 c k h =

@@ -5,7 +5,7 @@ use Prim.Native.Nat.{ℕ, _-_}
 use native.Mathlib.Omega.{arith}
 use Rattle.std.proofs.shelf.Ways.{tells}
 use Rattle.bit_marks.proofs.Bits.{and-bit, not-bit}
-use Rattle.bit_marks.proofs.between.Needs as need
+use Rattle.bit_marks.proofs.words.between.Needs as need
 
 pub returns : need.returns
 returns c k h =

@@ -6,8 +6,8 @@ use Prim.Native.Nat.{ℕ, _*_, _<_, _≤_}
 use native.Mathlib.Omega.{arith}
 use Rattle.std.proofs.shelf.Tests.{cases-lt, cases-bool}
 use Rattle.bit_marks.specs.Marks.{ends-by, marked}
-use Rattle.bit_marks.proofs.Words.{ends-decided, rest-none, rest-zero, past-words}
-use Rattle.bit_marks.proofs.all_below.Needs as need
+use Rattle.bit_marks.proofs.Places.{ends-decided, rest-none, rest-zero, past-words}
+use Rattle.bit_marks.proofs.words.all_below.Needs as need
 
 pub loop-at-holds : need.loop-at-holds
 loop-at-holds c d h p = absurd (omega arith)

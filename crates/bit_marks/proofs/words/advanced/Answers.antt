@@ -12,8 +12,8 @@ use Rattle.std.proofs.shelf.Tests.{cases-lt, or-from, and-right, le-ltb}
 use Rattle.bit_marks.specs.Marks.{marked}
 use Rattle.mitl.specs.Formulas.{bit}
 use Rattle.bit_marks.proofs.Bits.{or-bit, zero-bit}
-use Rattle.bit_marks.proofs.Words.{zeros, set-more, ends-decided}
-use Rattle.bit_marks.proofs.advanced.Needs as need
+use Rattle.bit_marks.proofs.Places.{zeros, set-more, ends-decided}
+use Rattle.bit_marks.proofs.words.advanced.Needs as need
 
 pub loop-at-holds : need.loop-at-holds
 loop-at-holds c = (refl, λ d h. absurd (omega arith), λ i h. zeros 16 i)

@@ -6,7 +6,7 @@ use Rattle.std.proofs.shelf.Bits.{one-shl}
 use Rattle.std.proofs.shelf.Ways.{tells}
 use Rattle.mitl.specs.Formulas.{bit}
 use Rattle.bit_marks.proofs.Bits.{ones-bit}
-use Rattle.bit_marks.proofs.below.Needs as need
+use Rattle.bit_marks.proofs.words.below.Needs as need
 
 pub returns-then-count-lt64 : need.returns-then-count-lt64
 returns-then-count-lt64 c k h =

@@ -5,9 +5,9 @@ use native.Mathlib.Omega.{arith}
 use lib.Count.{ones, ones-le}
 use Rattle.mitl.specs.Memory.{stretches}
 use Rattle.bit_marks.specs.Marks.{marked}
-use Rattle.bit_marks.proofs.Words.{ends-decided}
+use Rattle.bit_marks.proofs.Places.{ends-decided}
 use Rattle.bit_marks.proofs.Stretches.{more-stretches, past-stretches}
-use Rattle.bit_marks.proofs.stretch_count.Needs as need
+use Rattle.bit_marks.proofs.words.stretch_count.Needs as need
 
 pub add-count : need.add-count
 add-count c = omega (arith, ones-le 64 (c .ends .result) (c .ends .ok))

@@ -4,8 +4,8 @@ use mathlib.Core.Bool.{not, _&&_}
 use Prim.Native.Nat.{ℕ, _+_, _-_, _*_}
 use Rattle.mitl.specs.Formulas.{bit}
 use Rattle.bit_marks.proofs.Bits.{and-bit, not-bit}
-use Rattle.bit_marks.proofs.Words.{at-place}
-use Rattle.bit_marks.proofs.ends.Needs as need
+use Rattle.bit_marks.proofs.Places.{at-place}
+use Rattle.bit_marks.proofs.words.ends.Needs as need
 
 pub returns : need.returns
 returns c k h =

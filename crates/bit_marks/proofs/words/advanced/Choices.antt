@@ -5,7 +5,7 @@ use Prim.Native.Nat.{ℕ, _+_, _*_, _<_, _≤_}
 use lib.Dec.{leb, ltb}
 use lib.ListN.{length, getD}
 use Rattle.bit_marks.specs.Marks.{marked}
-use Rattle.bit_marks.proofs.advanced.Given as given
+use Rattle.bit_marks.proofs.words.advanced.Given as given
 
 abbrev pub Inv-loop-at : given.InvT-loop-at
 Inv-loop-at l =

@@ -1,0 +1,123 @@
+//! Marks in sixteen words: mark d is bit d % 64 of word d / 64, bit 0 being the least.
+ghost use mathlib.Core.Path.{_≡_};
+ghost use mathlib.Core.Bool.{Bool, true, false, not, _&&_, _||_};
+ghost use Prim.Native.Nat.{ℕ, _+_, _*_, _<_, _≤_};
+ghost use lib.Dec.{leb, ltb};
+ghost use lib.ListN.{getD};
+ghost use Rattle.mitl.specs.Formulas.{bit};
+ghost use Rattle.mitl.specs.Memory.{stretches};
+ghost use Rattle.bit_marks.specs.Marks.{marked, ends-by};
+
+// Whether bit k of the word is set.
+fn has(word: u64, k: u32) -> bool
+    requires { ⌜ k < 64 ⌝ }
+    ensures { λ r. ⌜ r ≡ bit k word ⌝ }
+{
+    (word >> k) & 1 == 1
+}
+
+// Word `at`, which is zero beyond the words.
+fn word_at(words: &[u64; 16], at: u32) -> u64
+    ensures { λ r. ⌜ r ≡ getD (now (words .entry)) at 0 ⌝ }
+{
+    if at < 16 { words[at as usize] } else { 0 }
+}
+
+// Mark d.
+pub(crate) fn mark(words: &[u64; 16], d: u32) -> bool
+    ensures { λ r. ⌜ r ≡ marked (now (words .entry)) d ⌝ }
+{
+    has(word_at(words, d / 64), d % 64)
+}
+
+// Word `at` with the bits of the marks below `end`.
+fn below(end: u32, at: u32) -> u64
+    requires { ⌜ at < 16 ⌝ }
+    ensures { λ r. ⌜ ((k : ℕ) → k < 64 → bit k r ≡ ltb (64 * at + k) end) ⌝ }
+{
+    let count = end.saturating_sub(64 * at);
+    if count < 64 {
+        (1 << count) - 1
+    } else {
+        u64::MAX
+    }
+}
+
+// Word `at` with the bits of the marks from `first` on and below `end`.
+fn between(first: u32, end: u32, at: u32) -> u64
+    requires { ⌜ at < 16 ⌝ }
+    ensures { λ r. ⌜ ((k : ℕ) → k < 64 → bit k r ≡ (leb first (64 * at + k) && ltb (64 * at + k) end)) ⌝ }
+{
+    below(end, at) & !below(first, at)
+}
+
+// Word `at` of the marks moved down by n places.
+fn moved(words: &[u64; 16], n: u32, at: u32) -> u64
+    requires { ⌜ at < 16 ⌝ }
+    ensures { λ r. ⌜ ((k : ℕ) → k < 64 → bit k r ≡ marked (now (words .entry)) (64 * at + k + n)) ⌝ }
+{
+    let whole = at + n / 64;
+    let low = word_at(words, whole);
+    let by = n % 64;
+    if by == 0 {
+        low
+    } else {
+        (low >> by) | (word_at(words, whole + 1) << (64 - by))
+    }
+}
+
+// How many words hold marks below b.
+fn words_for(b: u32) -> u32
+    requires { ⌜ b ≤ 1000 ⌝ }
+    ensures enough { λ r. ⌜ b ≤ 64 * r ⌝ }
+    ensures within { λ r. ⌜ r ≤ 16 ⌝ }
+{
+    (b + 63) / 64
+}
+
+// Whether no mark from b on is set.
+pub(crate) fn all_below(words: &[u64; 16], b: u32) -> bool
+    ensures { λ r. ⌜ r ≡ ends-by b (now (words .entry)) ⌝ }
+{
+    for at in b / 64..16 {
+        if word_at(words, at) & !below(b, at) != 0 {
+            return false;
+        }
+    }
+    true
+}
+
+// Of marks below b: those marks moved down by n places, and the marks from `first` on and below `end` set.
+pub(crate) fn advanced(words: &[u64; 16], b: u32, n: u32, first: u32, end: u32) -> [u64; 16]
+    requires small { ⌜ b ≤ 1000 ⌝ }
+    requires within { ⌜ ends-by b (now words) ≡ true ⌝ }
+    requires inside { ⌜ end ≤ b ⌝ }
+    ensures { λ r. ⌜ ((d : ℕ) → marked r d ≡ (marked (now (words .entry)) (d + n) || (leb first d && ltb d end))) ⌝ }
+{
+    let mut after = [0; 16];
+    for at in 0..words_for(b) {
+        after[at as usize] = moved(words, n, at) | between(first, end, at);
+    }
+    after
+}
+
+// Word `at` with the bits of the marks that end a stretch: they are yes, and the next is no.
+fn ends(words: &[u64; 16], at: u32) -> u64
+    requires { ⌜ at < 16 ⌝ }
+    ensures { λ r. ⌜ ((k : ℕ) → k < 64 → bit k r ≡ (marked (now (words .entry)) (64 * at + k) && not (marked (now (words .entry)) (64 * at + k + 1)))) ⌝ }
+{
+    word_at(words, at) & !moved(words, 1, at)
+}
+
+// How many unbroken stretches of yes the marks below b have, with none from b on.
+pub(crate) fn stretch_count(words: &[u64; 16], b: u32) -> u32
+    requires small { ⌜ b ≤ 1000 ⌝ }
+    requires within { ⌜ ends-by b (now words) ≡ true ⌝ }
+    ensures { λ r. ⌜ r ≡ stretches (marked (now (words .entry))) b ⌝ }
+{
+    let mut count = 0;
+    for at in 0..words_for(b) {
+        count += ends(words, at).count_ones();
+    }
+    count
+}
