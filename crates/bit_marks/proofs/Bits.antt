@@ -1,6 +1,6 @@
 -- The bits of a word after shifts, masks, or, and, not. Assumes nothing.
 use mathlib.Core.Path.{_≡_, refl, sym, ap, ap₂, subst, _∙_}
-use mathlib.Core.Bool.{Bool, true, false, not, _&&_, _||_}
+use mathlib.Core.Bool.{Bool, true, false, not, cond, _&&_, _||_}
 use mathlib.Core.Logic.{_⊎_, inl, inr, ⊎-elim}
 use Prim.Native.Nat.{ℕ, zero, suc, _+_, _-_, _*_, _/_, _%_, _^_, _<_, _≤_}
 use native.Mathlib.Nat.{pow-suc, zero-div, mul-assoc, div-one, div-eq-of-lt}
@@ -9,7 +9,7 @@ use lib.Dec.{eqb, ltb, leb}
 use lib.Bits.{bitOr, bitAnd}
 use lib.Pow.{pow-mono}
 use Rattle.std.proofs.shelf.Bits.{pow-pos, pow-add, shl-shr, shr-shr, and-mask, and-shr, and-mod, or-shr, or-mod, field-of, mod-pow-add}
-use Rattle.std.proofs.shelf.Tests.{eqb-false}
+use Rattle.std.proofs.shelf.Tests.{eqb-false, cases-lt, lt-ltb, le-ltb, cond-true, cond-false}
 use Rattle.std.proofs.shelf.Ways.{tells}
 use Rattle.mitl.specs.Formulas.{bit}
 
@@ -114,3 +114,25 @@ high-bit k j x p h =
     let more : 2 ^ j ≤ 2 ^ k = pow-mono h in
     let q : x < 2 ^ k = omega arith in
     ap (λ n. eqb (n % 2) 1) (div-eq-of-lt q)
+
+or-no : (x : Bool) → (x || false) ≡ x
+or-no true = refl
+or-no false = refl
+
+-- a bit of a low and a high word, from place s on
+pub joined-bit : (k x y s : ℕ) → x < 2 ^ 64 → k < 64 → 0 < s → s < 64
+    → bit k (bitOr (x / 2 ^ s) ((y * 2 ^ (64 - s)) % 2 ^ 64)) ≡ cond (ltb (k + s) 64) (bit (k + s) x) (bit (k + s - 64) y)
+joined-bit k x y s fit h p q =
+    or-bit k (x / 2 ^ s) ((y * 2 ^ (64 - s)) % 2 ^ 64) ∙ ap₂ _||_ (shr-bit k x s) (mod-bit k (y * 2 ^ (64 - s)) 64 h)
+    ∙ ⊎-elim within across (cases-lt (k + s) 64)
+  where
+    within : k + s < 64 → (bit (k + s) x || bit k (y * 2 ^ (64 - s))) ≡ cond (ltb (k + s) 64) (bit (k + s) x) (bit (k + s - 64) y)
+    within l =
+        ap (λ t. bit (k + s) x || t) (shl-low k y (64 - s) (omega arith)) ∙ or-no (bit (k + s) x)
+        ∙ sym (cond-true (ltb (k + s) 64) (bit (k + s) x) (bit (k + s - 64) y) (lt-ltb (k + s) 64 l))
+
+    across : 64 ≤ k + s → (bit (k + s) x || bit k (y * 2 ^ (64 - s))) ≡ cond (ltb (k + s) 64) (bit (k + s) x) (bit (k + s - 64) y)
+    across l =
+        let e : k - (64 - s) ≡ k + s - 64 = omega arith in
+        ap₂ _||_ (high-bit (k + s) 64 x fit l) (shl-high k y (64 - s) (omega arith) ∙ ap (λ n. bit n y) e)
+        ∙ sym (cond-false (ltb (k + s) 64) (bit (k + s) x) (bit (k + s - 64) y) (le-ltb (k + s) 64 l))

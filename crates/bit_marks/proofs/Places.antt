@@ -1,22 +1,22 @@
 -- Marks in words: one place, a move by whole words and bits. Assumes nothing.
 use mathlib.Core.Path.{_≡_, refl, sym, ap, ap₂, subst, _∙_}
-use mathlib.Core.Bool.{Bool, true, false, not, _&&_, _||_}
+use mathlib.Core.Bool.{Bool, true, false, not, cond, _&&_}
 use mathlib.Core.List.{List}
 use mathlib.Core.Logic.{⊎-elim}
 use Prim.Native.Nat.{ℕ, zero, suc, _+_, _-_, _*_, _/_, _%_, _^_, _<_, _≤_}
 use native.Mathlib.Omega.{arith}
-use lib.Bits.{bitOr, bitAnd}
+use lib.Bits.{bitAnd}
 use lib.Dec.{leb, ltb}
 use lib.ListN.{getD, length, set, replicate}
 use Rattle.std.proofs.shelf.Lists.{getD-past, getD-set-same, getD-set-other}
 use Rattle.std.proofs.shelf.Bits.{and-le-l}
-use Rattle.std.proofs.shelf.Tests.{cases-lt, le-leb, leb-true, lt-ltb, le-ltb, and-left, and-right, and-cases, true≢false, false≢true}
+use Rattle.std.proofs.shelf.Tests.{cases-lt, cond-true, cond-false, le-leb, leb-true, lt-ltb, le-ltb, and-left, and-right, and-cases, true≢false, false≢true}
 use Rattle.std.proofs.shelf.Ways.{decides-like}
 use Rattle.std.specs.Orderings.{Decides}
 use Rattle.mitl.proofs.Tests.{decides-all}
 use Rattle.mitl.specs.Formulas.{bit}
 use Rattle.bit_marks.specs.Marks.{marked, ends-by}
-use Rattle.bit_marks.proofs.Bits.{or-bit, and-bit, not-bit, no-bits, shr-bit, shl-high, shl-low, mod-bit, high-bit, zero-bit}
+use Rattle.bit_marks.proofs.Bits.{and-bit, not-bit, no-bits, zero-bit}
 
 -- place k of word i
 pub at-place : (ws : List ℕ) (d i k : ℕ) → k < 64 → d ≡ 64 * i + k → marked ws d ≡ bit k (getD ws i 0)
@@ -35,26 +35,6 @@ pub zeros : (n i : ℕ) → getD {A = ℕ} (replicate n 0) i 0 ≡ 0
 zeros zero i = refl
 zeros (suc n) zero = refl
 zeros (suc n) (suc i) = zeros n i
-
-or-no : (x : Bool) → (x || false) ≡ x
-or-no true = refl
-or-no false = refl
-
--- a bit of two neighbouring words, moved down by s places
-pub joined-bit : (ws : List ℕ) (i k s d : ℕ) → getD ws i 0 < 2 ^ 64 → k < 64 → 0 < s → s < 64 → d ≡ 64 * i + k + s
-    → bit k (bitOr (getD ws i 0 / 2 ^ s) ((getD ws (i + 1) 0 * 2 ^ (64 - s)) % 2 ^ 64)) ≡ marked ws d
-joined-bit ws i k s d fit h p q e =
-    or-bit k (getD ws i 0 / 2 ^ s) ((getD ws (i + 1) 0 * 2 ^ (64 - s)) % 2 ^ 64)
-    ∙ ap₂ _||_ (shr-bit k (getD ws i 0) s) (mod-bit k (getD ws (i + 1) 0 * 2 ^ (64 - s)) 64 h)
-    ∙ ⊎-elim within across (cases-lt (k + s) 64)
-  where
-    within : k + s < 64 → (bit (k + s) (getD ws i 0) || bit k (getD ws (i + 1) 0 * 2 ^ (64 - s))) ≡ marked ws d
-    within l = ap (λ t. bit (k + s) (getD ws i 0) || t) (shl-low k (getD ws (i + 1) 0) (64 - s) (omega arith))
-        ∙ or-no (bit (k + s) (getD ws i 0)) ∙ sym (at-place ws d i (k + s) l (omega arith))
-
-    across : 64 ≤ k + s → (bit (k + s) (getD ws i 0) || bit k (getD ws (i + 1) 0 * 2 ^ (64 - s))) ≡ marked ws d
-    across l = ap₂ _||_ (high-bit (k + s) 64 (getD ws i 0) fit l) (shl-high k (getD ws (i + 1) 0) (64 - s) (omega arith))
-        ∙ sym (at-place ws d (i + 1) (k - (64 - s)) (omega arith) (omega arith))
 
 -- words written one after another: the marks so far are F, and so are those of the next word
 pub set-more : (ws : List ℕ) (i v : ℕ) (F : ℕ → Bool) → i < length ws → ((d : ℕ) → d < 64 * i → marked ws d ≡ F d) → ((k : ℕ) → k < 64 → bit k v ≡ F (64 * i + k))
@@ -119,3 +99,12 @@ module _ (ws : List ℕ) (b i w m : ℕ) (read : w ≡ getD ws i 0) (fits : m < 
     where
       off : (k : ℕ) → (marked ws (64 * i + k) && not (ltb (64 * i + k) b)) ≡ false
       off k = ⊎-elim (λ (l : 64 * i + k < b). and-right (marked ws (64 * i + k)) (not (ltb (64 * i + k) b)) (ap not (lt-ltb (64 * i + k) b l))) (λ (l : b ≤ 64 * i + k). and-left (marked ws (64 * i + k)) (not (ltb (64 * i + k) b)) (none (64 * i + k) l)) (cases-lt (64 * i + k) b)
+
+-- the 64 marks from mark d on, of two neighbouring words
+pub from-place : (ws : List ℕ) (d k : ℕ) → k < 64
+    → cond (ltb (k + d % 64) 64) (bit (k + d % 64) (getD ws (d / 64) 0)) (bit (k + d % 64 - 64) (getD ws (d / 64 + 1) 0)) ≡ marked ws (d + k)
+from-place ws d k h =
+    ⊎-elim
+    (λ (l : k + d % 64 < 64). cond-true (ltb (k + d % 64) 64) _ _ (lt-ltb (k + d % 64) 64 l) ∙ sym (at-place ws (d + k) (d / 64) (k + d % 64) l (omega arith)))
+    (λ (l : 64 ≤ k + d % 64). cond-false (ltb (k + d % 64) 64) _ _ (le-ltb (k + d % 64) 64 l) ∙ sym (at-place ws (d + k) (d / 64 + 1) (k + d % 64 - 64) (omega arith) (omega arith)))
+    (cases-lt (k + d % 64) 64)

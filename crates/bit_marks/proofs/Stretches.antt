@@ -27,13 +27,13 @@ ones-top n x p =
     ∙ ap (λ t. t + ones (x % 2 ^ n)) (one-digit (x / 2 ^ n) top)
 
 -- the next n marks, where x has the bits of those that end a stretch
-pub more-stretches : (mark : ℕ → Bool) (i n x : ℕ) → x < 2 ^ n → ((k : ℕ) → k < n → bit k x ≡ (mark (i + k) && not (mark (i + k + 1)))) → stretches mark (i + n) ≡ ones x + stretches mark i
+pub more-stretches : (mark : ℕ → Bool) (i n x : ℕ) → x < 2 ^ n → ((k : ℕ) → k < n → bit k x ≡ (mark (i + k) && not (mark (i + 1 + k)))) → stretches mark (i + n) ≡ ones x + stretches mark i
 more-stretches mark i zero x p bits =
     let z : x ≡ 0 = omega arith in
     ap (stretches mark) (add-zero i) ∙ omega (arith, ap ones z ∙ ones-ones 0)
 more-stretches mark i (suc n) x p bits =
-    let next : suc (i + n) ≡ i + n + 1 = omega arith in
-    let here : cond (mark (i + n) && not (mark (suc (i + n)))) 1 0 ≡ cond (bit n x) 1 0 = ap (λ t. cond t 1 0) (ap (λ j. mark (i + n) && not (mark j)) next ∙ sym (bits n (omega arith))) in
+    let next : suc (i + n) ≡ i + 1 + n = omega arith in
+    let here : _≡_ {A = ℕ} (cond (mark (i + n) && not (mark (suc (i + n)))) 1 0) (cond (bit n x) 1 0) = ap (λ t. cond {A = ℕ} t 1 0) (ap (λ j. mark (i + n) && not (mark j)) next ∙ sym (bits n (omega arith))) in
     let rest : stretches mark (i + n) ≡ ones (x % 2 ^ n) + stretches mark i = more-stretches mark i n (x % 2 ^ n) (mod-below x (2 ^ n) (pow-pos n)) (λ k h. mod-bit k x n h ∙ bits k (omega arith)) in
     ap (stretches mark) (add-suc i n) ∙ ap₂ _+_ here rest ∙ omega (arith, ones-top n x p)
 

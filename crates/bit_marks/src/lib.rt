@@ -48,15 +48,23 @@ fn blank(a: u32, b: u32) -> BitMarks
     }
 }
 
+// The window 0 to 1 and its mark no.
+fn fresh() -> BitMarks
+    ensures sound { λ r. ⌜ sound r ≡ true ⌝ }
+    ensures means { λ r. ⌜ bits-mean r ≡ new-memory ⌝ }
+{
+    blank(0, 1)
+}
+
 // The marks themselves where their content is sound, else a new memory.
 fn settled(m: BitMarks) -> BitMarks
     ensures sound { λ r. ⌜ sound r ≡ true ⌝ }
     ensures means { λ r. ⌜ bits-mean r ≡ bits-mean m ⌝ }
 {
-    if fits(m.a, m.b) && all_below(&m.words, m.b) {
+    if fits(m.a, m.b) && all_below(&m.words, m.b as usize) {
         m
     } else {
-        blank(0, 1)
+        fresh()
     }
 }
 
@@ -64,7 +72,7 @@ fn settled(m: BitMarks) -> BitMarks
 fn verdict(m: &BitMarks, operand: bool, d: u32) -> bool
     ensures { λ r. ⌜ r ≡ ahead (now (m .entry) .a) operand (marked (now (m .entry) .words)) d ⌝ }
 {
-    mark(&m.words, d) || operand && m.a <= d
+    mark(&m.words, d as usize) || operand && m.a <= d
 }
 
 // The verdict of the next tick and how long it lasts: from tick b on the verdict is the operand.
@@ -95,8 +103,15 @@ fn taken_by(m: BitMarks, operand: bool, n: u32) -> BitMarks
     ensures { λ r. ⌜ bits-mean r ≡ took operand n (bits-mean m) ⌝ }
 {
     // the marks from a - n on and below b come within reach of the ticks taken
+    let first = m.a.saturating_sub(n);
     let end = set_end(m.b, operand, n);
-    let words = advanced(&m.words, m.b, n, m.a.saturating_sub(n), end);
+    let words = advanced(
+        &m.words,
+        m.b as usize,
+        n as usize,
+        first as usize,
+        end as usize,
+    );
     BitMarks {
         a: m.a,
         b: m.b,
@@ -116,7 +131,7 @@ pub impl WindowMemory for BitMarks as BitMemory {
     ghost meaning = { bits-mean };
 
     fn new() -> BitMarks {
-        blank(0, 1)
+        fresh()
     }
 
     fn prepare(&mut self, a: u32, b: u32) -> bool {
@@ -135,7 +150,7 @@ pub impl WindowMemory for BitMarks as BitMemory {
 
     fn look(&self, d: u32) -> bool {
         let m = settled(*self);
-        mark(&m.words, d)
+        mark(&m.words, d as usize)
     }
 
     fn take(&mut self, operand: bool, n: u32) {
@@ -150,6 +165,6 @@ pub impl WindowMemory for BitMarks as BitMemory {
 
     fn count(&self) -> u32 {
         let m = settled(*self);
-        stretch_count(&m.words, m.b)
+        stretch_count(&m.words, m.b as usize)
     }
 }

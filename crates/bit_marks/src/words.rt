@@ -1,7 +1,7 @@
 //! Marks in sixteen words: mark d is bit d % 64 of word d / 64, bit 0 being the least.
 ghost use mathlib.Core.Path.{_≡_};
-ghost use mathlib.Core.Bool.{Bool, true, false, not, _&&_, _||_};
-ghost use Prim.Native.Nat.{ℕ, _+_, _*_, _<_, _≤_};
+ghost use mathlib.Core.Bool.{Bool, true, false, not, cond, _&&_, _||_};
+ghost use Prim.Native.Nat.{ℕ, _+_, _-_, _*_, _^_, _<_, _≤_};
 ghost use lib.Dec.{leb, ltb};
 ghost use lib.ListN.{getD};
 ghost use Rattle.mitl.specs.Formulas.{bit};
@@ -9,7 +9,7 @@ ghost use Rattle.mitl.specs.Memory.{stretches};
 ghost use Rattle.bit_marks.specs.Marks.{marked, ends-by};
 
 // Whether bit k of the word is set.
-fn has(word: u64, k: u32) -> bool
+fn has(word: u64, k: usize) -> bool
     requires { ⌜ k < 64 ⌝ }
     ensures { λ r. ⌜ r ≡ bit k word ⌝ }
 {
@@ -17,21 +17,21 @@ fn has(word: u64, k: u32) -> bool
 }
 
 // Word `at`, which is zero beyond the words.
-fn word_at(words: &[u64; 16], at: u32) -> u64
+fn word_at(words: &[u64; 16], at: usize) -> u64
     ensures { λ r. ⌜ r ≡ getD (now (words .entry)) at 0 ⌝ }
 {
-    if at < 16 { words[at as usize] } else { 0 }
+    if at < 16 { words[at] } else { 0 }
 }
 
 // Mark d.
-pub(crate) fn mark(words: &[u64; 16], d: u32) -> bool
+pub(crate) fn mark(words: &[u64; 16], d: usize) -> bool
     ensures { λ r. ⌜ r ≡ marked (now (words .entry)) d ⌝ }
 {
     has(word_at(words, d / 64), d % 64)
 }
 
 // Word `at` with the bits of the marks below `end`.
-fn below(end: u32, at: u32) -> u64
+fn below(end: usize, at: usize) -> u64
     requires { ⌜ at < 16 ⌝ }
     ensures { λ r. ⌜ ((k : ℕ) → k < 64 → bit k r ≡ ltb (64 * at + k) end) ⌝ }
 {
@@ -44,30 +44,35 @@ fn below(end: u32, at: u32) -> u64
 }
 
 // Word `at` with the bits of the marks from `first` on and below `end`.
-fn between(first: u32, end: u32, at: u32) -> u64
+fn between(first: usize, end: usize, at: usize) -> u64
     requires { ⌜ at < 16 ⌝ }
     ensures { λ r. ⌜ ((k : ℕ) → k < 64 → bit k r ≡ (leb first (64 * at + k) && ltb (64 * at + k) end)) ⌝ }
 {
     below(end, at) & !below(first, at)
 }
 
-// Word `at` of the marks moved down by n places.
-fn moved(words: &[u64; 16], n: u32, at: u32) -> u64
-    requires { ⌜ at < 16 ⌝ }
-    ensures { λ r. ⌜ ((k : ℕ) → k < 64 → bit k r ≡ marked (now (words .entry)) (64 * at + k + n)) ⌝ }
+// The 64 bits from place `by` on of a low word and the high word after it.
+fn joined(low: u64, high: u64, by: usize) -> u64
+    requires { ⌜ by < 64 ⌝ }
+    ensures { λ r. ⌜ ((k : ℕ) → k < 64 → bit k r ≡ cond (ltb (k + by) 64) (bit (k + by) low) (bit (k + by - 64) high)) ⌝ }
 {
-    let whole = at + n / 64;
-    let low = word_at(words, whole);
-    let by = n % 64;
     if by == 0 {
         low
     } else {
-        (low >> by) | (word_at(words, whole + 1) << (64 - by))
+        (low >> by) | (high << (64 - by))
     }
 }
 
-// How many words hold marks below b.
-fn words_for(b: u32) -> u32
+// The 64 marks from mark d on, as a word.
+fn from_mark(words: &[u64; 16], d: usize) -> u64
+    ensures { λ r. ⌜ ((k : ℕ) → k < 64 → bit k r ≡ marked (now (words .entry)) (d + k)) ⌝ }
+{
+    let at = d / 64;
+    joined(word_at(words, at), word_at(words, at + 1), d % 64)
+}
+
+// How many words hold the marks below b.
+fn words_for(b: usize) -> usize
     requires { ⌜ b ≤ 1000 ⌝ }
     ensures enough { λ r. ⌜ b ≤ 64 * r ⌝ }
     ensures within { λ r. ⌜ r ≤ 16 ⌝ }
@@ -76,7 +81,7 @@ fn words_for(b: u32) -> u32
 }
 
 // Whether no mark from b on is set.
-pub(crate) fn all_below(words: &[u64; 16], b: u32) -> bool
+pub(crate) fn all_below(words: &[u64; 16], b: usize) -> bool
     ensures { λ r. ⌜ r ≡ ends-by b (now (words .entry)) ⌝ }
 {
     for at in b / 64..16 {
@@ -87,31 +92,41 @@ pub(crate) fn all_below(words: &[u64; 16], b: u32) -> bool
     true
 }
 
-// Of marks below b: those marks moved down by n places, and the marks from `first` on and below `end` set.
-pub(crate) fn advanced(words: &[u64; 16], b: u32, n: u32, first: u32, end: u32) -> [u64; 16]
-    requires small { ⌜ b ≤ 1000 ⌝ }
+// Word `at` of the marks moved down by n places.
+fn moved(words: &[u64; 16], n: usize, at: usize) -> u64
+    requires within { ⌜ at < 16 ⌝ }
+    requires small { ⌜ n < 2 ^ 32 ⌝ }
+    ensures { λ r. ⌜ ((k : ℕ) → k < 64 → bit k r ≡ marked (now (words .entry)) (64 * at + n + k)) ⌝ }
+{
+    from_mark(words, 64 * at + n)
+}
+
+// Of marks below b: these moved down by n places, and the marks from `first` on and below `end` set.
+pub(crate) fn advanced(words: &[u64; 16], b: usize, n: usize, first: usize, end: usize) -> [u64; 16]
+    requires few { ⌜ b ≤ 1000 ⌝ }
     requires within { ⌜ ends-by b (now words) ≡ true ⌝ }
+    requires small { ⌜ n < 2 ^ 32 ⌝ }
     requires inside { ⌜ end ≤ b ⌝ }
     ensures { λ r. ⌜ ((d : ℕ) → marked r d ≡ (marked (now (words .entry)) (d + n) || (leb first d && ltb d end))) ⌝ }
 {
     let mut after = [0; 16];
     for at in 0..words_for(b) {
-        after[at as usize] = moved(words, n, at) | between(first, end, at);
+        after[at] = moved(words, n, at) | between(first, end, at);
     }
     after
 }
 
 // Word `at` with the bits of the marks that end a stretch: they are yes, and the next is no.
-fn ends(words: &[u64; 16], at: u32) -> u64
+fn ends(words: &[u64; 16], at: usize) -> u64
     requires { ⌜ at < 16 ⌝ }
-    ensures { λ r. ⌜ ((k : ℕ) → k < 64 → bit k r ≡ (marked (now (words .entry)) (64 * at + k) && not (marked (now (words .entry)) (64 * at + k + 1)))) ⌝ }
+    ensures { λ r. ⌜ ((k : ℕ) → k < 64 → bit k r ≡ (marked (now (words .entry)) (64 * at + k) && not (marked (now (words .entry)) (64 * at + 1 + k)))) ⌝ }
 {
     word_at(words, at) & !moved(words, 1, at)
 }
 
-// How many unbroken stretches of yes the marks below b have, with none from b on.
-pub(crate) fn stretch_count(words: &[u64; 16], b: u32) -> u32
-    requires small { ⌜ b ≤ 1000 ⌝ }
+// Of marks below b: how many unbroken stretches of yes they have.
+pub(crate) fn stretch_count(words: &[u64; 16], b: usize) -> u32
+    requires few { ⌜ b ≤ 1000 ⌝ }
     requires within { ⌜ ends-by b (now words) ≡ true ⌝ }
     ensures { λ r. ⌜ r ≡ stretches (marked (now (words .entry))) b ⌝ }
 {

@@ -18,7 +18,7 @@ returns c =
     let p = parts m (c .pre) in
     marks-mean (m .a) (m .b) (c .advanced-words .result) (taken (m .a) (m .b) v n (marked (m .words)))
     (and-parts (bits-admit (m .a) (m .b)) (ends-by (m .b) (m .words)) (c .pre) .0)
-    (λ d. c .advanced-words .ensures d ∙ ap₂ (λ x y. marked (m .words) (d + n) || (leb x d && ltb d y)) (c .saturating-sub .ensures) (c .set-end-end .ensures)
+    (λ d. c .advanced-words .ensures d ∙ ap₂ (λ x y. marked (m .words) (d + n) || (leb x d && ltb d y)) (c .saturating-sub-first .ensures) (c .set-end-end .ensures)
     ∙ taken-is (m .a) (m .b) n d v (marked (m .words)) (omega (arith, p .order)))
     (λ d h. taken-none (m .a) (m .b) n d v (marked (m .words)) (omega (arith, p .order)) (p .none) h)
     ∙ ap (took v n) (sym (when-sound m (c .pre)))

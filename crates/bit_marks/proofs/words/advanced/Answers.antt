@@ -18,16 +18,15 @@ use Rattle.bit_marks.proofs.words.advanced.Needs as need
 pub loop-at-holds : need.loop-at-holds
 loop-at-holds c = (refl, λ d h. absurd (omega arith), λ i h. zeros 16 i)
 
-abbrev goal : (c : need.After-between) → ℕ → Bool
-goal c d = marked (c .args .words .now) (d + c .args .n) || (leb (c .args .first) d && ltb d (c .args .end))
-
 pub loop-at-again : need.loop-at-again
 loop-at-again c =
     let i : ℕ = c .loop-at .at in
-    let short : i < length (c .loop-at .after) = omega arith in
-    (simp length-set (c .loop-at .inv .0),
-      set-more (c .loop-at .after) i (bitOr (c .moved .result) (c .between .result)) (goal c) short (c .loop-at .inv .1)
-      (λ k h. or-bit k (c .moved .result) (c .between .result) ∙ ap₂ _||_ (c .moved .ensures k h) (c .between .ensures k h)),
+    let short : i < length (c .loop-at .after) = omega arith in (
+      simp length-set (c .loop-at .inv .0),
+      set-more (c .loop-at .after) i (bitOr (c .moved .result) (c .between .result)) (λ d. marked (c .args .words .now) (d + c .args .n) || (leb (c .args .first) d && ltb d (c .args .end))) short (c .loop-at .inv .1)
+          (λ k h.
+          let e : 64 * i + c .args .n + k ≡ 64 * i + k + c .args .n = omega arith in
+          or-bit k (c .moved .result) (c .between .result) ∙ ap₂ _||_ (c .moved .ensures k h ∙ ap (marked (c .args .words .now)) e) (c .between .ensures k h)),
       λ j h. let other : j ≢ i = omega arith in getD-set-other (c .loop-at .after) i j _ 0 other ∙ c .loop-at .inv .2 j (omega arith),
     )
 
