@@ -1,0 +1,28 @@
+-- What a memory of clock pairs means. Assumes nothing.
+use mathlib.Core.Bool.{Bool, cond, _&&_}
+use mathlib.Core.List.{List, [], _∷_, _++_}
+use Prim.Native.Nat.{ℕ, _-_}
+use lib.Dec.{leb}
+use lib.ListN.{length, take, drop, replicate}
+use Rattle.mitl.specs.Memory.{Meaning, new-memory}
+use Rattle.clock_pairs.specs.declared.Episode.{Episode}
+use Rattle.clock_pairs.specs.declared.ClockPairs.{ClockPairs}
+use Rattle.clock_pairs.specs.Episodes.{served, episode, reached, apart, vacant}
+
+-- its episodes, newest first
+abbrev pub held : ClockPairs → List Episode
+held c = take (c .len) (c .episodes)
+
+-- content that this kind makes
+abbrev pub sound : ClockPairs → Bool
+sound c = served (c .a) (c .b) && (leb (c .len) 32 && (apart (c .a) (c .b) 0 (held c) && vacant (drop (c .len) (c .episodes))))
+
+abbrev pub told : ℕ → ℕ → List Episode → Meaning
+told a b es = record { a = a; b = b; mark = reached a b es }
+
+abbrev pub meaning-of : ClockPairs → Meaning
+meaning-of c = cond (sound c) (told (c .a) (c .b) (held c)) new-memory
+
+-- the memory that holds these episodes
+abbrev pub holding : ℕ → ℕ → List Episode → ClockPairs
+holding a b es = record { a = a; b = b; len = length es; episodes = es ++ replicate (32 - length es) (episode 0 0) }
