@@ -1,1 +1,6 @@
-
+pub mod Order
+pub mod Reach
+pub mod Ahead
+pub mod Count
+pub mod Hold
+pub mod Loops
