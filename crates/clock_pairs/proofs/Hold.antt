@@ -1,5 +1,5 @@
 -- Content and the episodes that it holds. Assumes nothing.
-use mathlib.Core.Path.{_≡_, refl, sym, ap, ap₂, _∙_}
+use mathlib.Core.Path.{_≡_, refl, sym, ap, ap₂, subst, _∙_}
 use mathlib.Core.Bool.{Bool, true, false, cond, _&&_}
 use mathlib.Core.List.{List, [], _∷_, _++_}
 use Prim.Native.Nat.{ℕ, zero, suc, _+_, _-_, _<_, _≤_}
@@ -100,3 +100,18 @@ holds m a b es e = ap held e ∙ held-holding a b es
 
 pub holds-own : (m : ClockPairs) (a b : ℕ) (es : List Episode) → m ≡ holding a b es → m ≡ holding a b (held m)
 holds-own m a b es e = e ∙ ap (holding a b) (sym (holds m a b es e))
+
+pub tidy-from : (m : ClockPairs) (a b : ℕ) (es : List Episode) → m ≡ holding a b es → m ≡ holding (m .a) (m .b) (held m)
+tidy-from m a b es e = own-window m a b (holds-own m a b es e)
+
+-- episodes that are apart have room
+pub room-for : (a b : ℕ) (es : List Episode) → served a b ≡ true → Apart a b 0 es → length es ≤ 32
+room-for a b es w g = let s = served-parts a b w in omega (arith, few a b 0 es g)
+
+-- what is carried behind these episodes
+module _ (m : ClockPairs) (a b : ℕ) (front more : List Episode) (e : m ≡ holding a b front) where
+  pub room-behind : length (front ++ more) ≤ 32 → length (held m ++ more) ≤ 32
+  room-behind le = subst (λ es. length (es ++ more) ≤ 32) (sym (holds m a b front e)) le
+
+  pub behind : (r : ClockPairs) → r ≡ holding (m .a) (m .b) (held m ++ more) → r ≡ holding a b (front ++ more)
+  behind r is = is ∙ ap₂ (λ x y. holding x y (held m ++ more)) (ap (λ k. k .a) e) (ap (λ k. k .b) e) ∙ ap (λ es. holding a b (es ++ more)) (holds m a b front e)

@@ -4,3 +4,4 @@ pub mod Ahead
 pub mod Count
 pub mod Hold
 pub mod Loops
+pub mod Takes

@@ -2,8 +2,8 @@
 use mathlib.Core.Bool.{Bool, cond, _&&_}
 use mathlib.Core.List.{List, [], _∷_, _++_}
 use Prim.Native.Nat.{ℕ, _-_}
-use lib.Dec.{leb}
-use lib.ListN.{length, take, drop, replicate}
+use lib.Dec.{leb, ltb}
+use lib.ListN.{length, getD, take, drop, replicate}
 use Rattle.mitl.specs.Memory.{Meaning, new-memory}
 use Rattle.clock_pairs.specs.declared.Episode.{Episode}
 use Rattle.clock_pairs.specs.declared.ClockPairs.{ClockPairs}
@@ -26,3 +26,7 @@ meaning-of c = cond (sound c) (told (c .a) (c .b) (held c)) new-memory
 -- the memory that holds these episodes
 abbrev pub holding : ℕ → ℕ → List Episode → ClockPairs
 holding a b es = record { a = a; b = b; len = length es; episodes = es ++ replicate (32 - length es) (episode 0 0) }
+
+-- the newest episode is not past, or the gap behind it is at most b - a ticks
+abbrev pub goes-on : ClockPairs → Bool
+goes-on c = ltb 0 (c .len) && leb (getD (c .episodes) 0 (episode 0 0) .fall) (c .b - c .a)

@@ -5,7 +5,11 @@ ghost use Prim.Native.Nat.{ℕ, _+_, _-_, min, _<_, _≤_};
 ghost use mathlib.Core.List.{List, [], _∷_, _++_};
 ghost use lib.ListN.{length, getD, take, drop};
 ghost use Rattle.clock_pairs.specs.Episodes.{apart, covers, episode, lasting, older, reached, served, vacant};
-ghost use Rattle.clock_pairs.specs.Meanings.{held, holding};
+ghost use Rattle.clock_pairs.specs.Meanings.{goes-on, held, holding, meaning-of, sound, told};
+ghost use Rattle.mitl.specs.Memory.{ahead, clean, counted, Lasts, took};
+ghost use mathlib.Core.Logic.{_⊎_};
+use window::Admission;
+use window::WindowMemory;
 
 // The most episodes that a memory holds.
 const MOST: usize = 32;
@@ -143,10 +147,9 @@ impl ClockPairs {
     }
 
     // Whether the places behind the episodes are empty.
-    fn ends_empty(&self) -> bool
-        requires full { ⌜ length (now self .episodes) ≡ 32 ⌝ }
-        requires len { ⌜ now self .len ≤ 32 ⌝ }
-        ensures { λ r. ⌜ r ≡ vacant (drop (now (self .entry) .len) (now (self .entry) .episodes)) ⌝ }
+    fn ends_empty(self) -> bool
+        requires { ⌜ self .len ≤ 32 ⌝ }
+        ensures { λ r. ⌜ r ≡ vacant (drop (self .len) (self .episodes)) ⌝ }
     {
         for i in self.len as usize..MOST {
             let e = self.episodes[i];
@@ -155,5 +158,159 @@ impl ClockPairs {
             }
         }
         true
+    }
+
+    // Whether this kind made the content.
+    fn is_sound(&self) -> bool
+        ensures { λ r. ⌜ r ≡ sound (now (self .entry)) ⌝ }
+    {
+        serves(self.a, self.b) && self.len <= 32 && self.in_order() && self.ends_empty()
+    }
+
+    // The memory itself where this kind made its content, else a new one.
+    fn settled(self) -> ClockPairs
+        ensures sound { λ r. ⌜ sound r ≡ true ⌝ }
+        ensures window { λ r. ⌜ served (r .a) (r .b) ≡ true ⌝ }
+        ensures means { λ r. ⌜ meaning-of self ≡ told (r .a) (r .b) (held r) ⌝ }
+        ensures counts { λ r. ⌜ counted (meaning-of self) ≡ r .len ⌝ }
+    {
+        if self.is_sound() {
+            self
+        } else {
+            ClockPairs::empty(0, 1)
+        }
+    }
+
+    // Whether a yes now goes on with the newest episode: the gap behind it is at most b - a ticks.
+    fn goes_on(&self) -> bool
+        requires { ⌜ now self .a < now self .b ⌝ }
+        ensures { λ r. ⌜ r ≡ goes-on (now (self .entry)) ⌝ }
+    {
+        self.len > 0 && self.episodes[0].fall <= self.b - self.a
+    }
+
+    // The window with one episode, in which the operand is yes.
+    fn rising(a: u32, b: u32, rise: u32) -> ClockPairs
+        ensures { λ r. ⌜ r ≡ holding a b (episode rise 0 ∷ []) ⌝ }
+    {
+        let mut next = ClockPairs::empty(a, b);
+        next.push(Episode { rise, fall: 0 });
+        next
+    }
+
+    // The memory after n ticks, n at least 1, at which the operand is yes.
+    fn after_yes(self, n: u32) -> ClockPairs
+        requires sound { ⌜ sound self ≡ true ⌝ }
+        requires ticks { ⌜ 0 < n ⌝ }
+        ensures { λ r. ⌜ meaning-of r ≡ took true n (told (self .a) (self .b) (held self)) ⌝ }
+    {
+        if self.goes_on() {
+            let rise = grown(self.episodes[0].rise, n, self.b);
+            self.carried(1, n, ClockPairs::rising(self.a, self.b, rise))
+        } else {
+            let rise = grown(0, n, self.b);
+            self.carried(0, n, ClockPairs::rising(self.a, self.b, rise))
+        }
+    }
+
+    // The memory after n ticks at which the operand is no.
+    fn after_no(self, n: u32) -> ClockPairs
+        requires { ⌜ sound self ≡ true ⌝ }
+        ensures { λ r. ⌜ ((v : Bool) → (v ≡ false) ⊎ (n ≡ 0) → meaning-of r ≡ took v n (told (self .a) (self .b) (held self))) ⌝ }
+    {
+        self.carried(0, n, ClockPairs::empty(self.a, self.b))
+    }
+
+    // The memory after n ticks at which the operand has this value.
+    fn after(self, operand: bool, n: u32) -> ClockPairs
+        requires { ⌜ sound self ≡ true ⌝ }
+        ensures { λ r. ⌜ meaning-of r ≡ took operand n (told (self .a) (self .b) (held self)) ⌝ }
+    {
+        if operand && n > 0 {
+            self.after_yes(n)
+        } else {
+            self.after_no(n)
+        }
+    }
+
+    // The verdict of the next tick and how long it lasts: the oldest episode tells.
+    fn forecast(self, operand: bool) -> (bool, Option<u32>)
+        requires { ⌜ sound self ≡ true ⌝ }
+        ensures next { λ r. ⌜ r .0 ≡ ahead (self .a) operand (reached (self .a) (self .b) (held self)) 0 ⌝ }
+        ensures lasts { λ r. ⌜ Lasts (ahead (self .a) operand (reached (self .a) (self .b) (held self))) (r .0) (r .1) ⌝ }
+    {
+        if self.len == 0 {
+            return idle(self.a, operand);
+        }
+        let oldest = self.episodes[self.len as usize - 1];
+        let start = oldest.start(self.a);
+        let end = oldest.end(self.b);
+        if start > 0 {
+            (false, Some(start))
+        } else if operand && self.a <= end {
+            (true, None)
+        } else {
+            (true, Some(end))
+        }
+    }
+}
+
+// The verdict of the next tick and how long it lasts, without an episode.
+fn idle(a: u32, operand: bool) -> (bool, Option<u32>)
+    ensures next { λ r. ⌜ r .0 ≡ ahead a operand (λ _. false) 0 ⌝ }
+    ensures lasts { λ r. ⌜ Lasts (ahead a operand (λ _. false)) (r .0) (r .1) ⌝ }
+{
+    if !operand {
+        (false, None)
+    } else if a == 0 {
+        (true, None)
+    } else {
+        (false, Some(a))
+    }
+}
+
+pub impl Admission for ClockPairs as ClockPairsAdmission {
+    ghost admitted = { served };
+
+    fn admits(a: u32, b: u32) -> bool {
+        serves(a, b)
+    }
+}
+
+pub impl WindowMemory for ClockPairs as ClockPairsMemory {
+    ghost meaning = { meaning-of };
+
+    fn new() -> ClockPairs {
+        ClockPairs::empty(0, 1)
+    }
+
+    fn prepare(&mut self, a: u32, b: u32) -> bool {
+        if serves(a, b) {
+            *self = ClockPairs::empty(a, b);
+            true
+        } else {
+            false
+        }
+    }
+
+    fn clear(&mut self) {
+        let c = self.settled();
+        *self = ClockPairs::empty(c.a, c.b);
+    }
+
+    fn look(&self, d: u32) -> bool {
+        self.settled().marks(d)
+    }
+
+    fn take(&mut self, operand: bool, n: u32) {
+        *self = self.settled().after(operand, n);
+    }
+
+    fn run(&self, operand: bool) -> (bool, Option<u32>) {
+        self.settled().forecast(operand)
+    }
+
+    fn count(&self) -> u32 {
+        self.settled().len
     }
 }

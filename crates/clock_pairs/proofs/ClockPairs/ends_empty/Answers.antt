@@ -9,17 +9,20 @@ use Rattle.clock_pairs.proofs.ClockPairs.ends_empty.Needs as need
 
 pub returns-then-e-ne0 : need.returns-then-e-ne0
 returns-then-e-ne0 c =
-    let m = c .args .self .now in
-    let step = vacant-step m (c .pre .full) (c .pre .len) (c .loop-i .i) (c .loop-i-test .taken) in
+    let m = c .args .self in
+    let full : length (m .episodes) ≡ 32 = search needs in
+    let step = vacant-step m full (c .pre) (c .loop-i .i) (c .loop-i-test .taken) in
     grind (arith, tells, step, c .loop-i .inv)
 
 pub loop-i-again : need.loop-i-again
 loop-i-again c =
-    let m = c .args .self .now in
-    let step = vacant-step m (c .pre .full) (c .pre .len) (c .loop-i .i) (c .loop-i-test .taken) in
+    let m = c .args .self in
+    let full : length (m .episodes) ≡ 32 = search needs in
+    let step = vacant-step m full (c .pre) (c .loop-i .i) (c .loop-i-test .taken) in
     grind (arith, tells, step, c .loop-i .inv)
 
 pub returns : need.returns
 returns c =
-    let m = c .args .self .now in
-    sym (vacant-end m (c .pre .full) (c .pre .len) (c .loop-i .i) (c .loop-i-test .left)) ∙ c .loop-i .inv
+    let m = c .args .self in
+    let full : length (m .episodes) ≡ 32 = search needs in
+    sym (vacant-end m full (c .pre) (c .loop-i .i) (c .loop-i-test .left)) ∙ c .loop-i .inv
