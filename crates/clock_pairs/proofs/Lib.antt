@@ -5,3 +5,4 @@ pub mod Count
 pub mod Hold
 pub mod Loops
 pub mod Takes
+pub mod Oldest

@@ -62,3 +62,8 @@ module _ (a b : ℕ) (below : a < b) where
   reached-on n e es d pos near rose =
       ap₂ _||_ (filled n d e near rose ∙ ap (λ t. covers a b e (d + n) || t) (sym (meets-covers n d pos))) (reached-lasting n es d)
       ∙ or-moved (covers a b e (d + n)) (meets a b n d) (reached a b es (d + n))
+
+-- no episode reaches the tick b ahead
+pub reached-past : (a b d : ℕ) → b ≤ d → (es : List Episode) → reached a b es d ≡ false
+reached-past a b d le [] = refl
+reached-past a b d le (e ∷ es) = rw (reached-past a b d le es) (grind (arith, tells))

@@ -6,7 +6,7 @@ ghost use mathlib.Core.List.{List, [], _∷_, _++_};
 ghost use lib.ListN.{length, getD, take, drop};
 ghost use Rattle.clock_pairs.specs.Episodes.{apart, covers, episode, lasting, older, reached, served, vacant};
 ghost use Rattle.clock_pairs.specs.Meanings.{goes-on, held, holding, meaning-of, sound, told};
-ghost use Rattle.mitl.specs.Memory.{ahead, clean, counted, Lasts, took};
+ghost use Rattle.mitl.specs.Memory.{ahead, clean, cleared, counted, Lasts, took};
 ghost use mathlib.Core.Logic.{_⊎_};
 use window::Admission;
 use window::WindowMemory;
@@ -223,14 +223,22 @@ impl ClockPairs {
 
     // The memory after n ticks at which the operand has this value.
     fn after(self, operand: bool, n: u32) -> ClockPairs
-        requires { ⌜ sound self ≡ true ⌝ }
-        ensures { λ r. ⌜ meaning-of r ≡ took operand n (told (self .a) (self .b) (held self)) ⌝ }
+        ensures { λ r. ⌜ meaning-of r ≡ took operand n (meaning-of self) ⌝ }
     {
+        let c = self.settled();
         if operand && n > 0 {
-            self.after_yes(n)
+            c.after_yes(n)
         } else {
-            self.after_no(n)
+            c.after_no(n)
         }
+    }
+
+    // The memory without its episodes.
+    fn emptied(self) -> ClockPairs
+        ensures { λ r. ⌜ meaning-of r ≡ cleared (meaning-of self) ⌝ }
+    {
+        let c = self.settled();
+        ClockPairs::empty(c.a, c.b)
     }
 
     // The verdict of the next tick and how long it lasts: the oldest episode tells.
@@ -294,8 +302,7 @@ pub impl WindowMemory for ClockPairs as ClockPairsMemory {
     }
 
     fn clear(&mut self) {
-        let c = self.settled();
-        *self = ClockPairs::empty(c.a, c.b);
+        *self = self.emptied();
     }
 
     fn look(&self, d: u32) -> bool {
@@ -303,7 +310,7 @@ pub impl WindowMemory for ClockPairs as ClockPairsMemory {
     }
 
     fn take(&mut self, operand: bool, n: u32) {
-        *self = self.settled().after(operand, n);
+        *self = self.after(operand, n);
     }
 
     fn run(&self, operand: bool) -> (bool, Option<u32>) {
