@@ -24,7 +24,7 @@ pub oldest-at : (e : Episode) (es : List Episode) (d : Episode) → getD (e ∷ 
 oldest-at e [] d = refl
 oldest-at e (f ∷ es) d = oldest-at f es d
 
-module _ (a b : ℕ) (below : a < b) where
+module _ (a b : ℕ) (upto : a ≤ b) where
   oldest-fell : (low : ℕ) (e : Episode) (es : List Episode) → Apart a b low (e ∷ es) → (low ≤ oldest e es .fall) × (oldest e es .fall < oldest e es .rise) × (oldest e es .rise ≤ b)
   oldest-fell low e [] p = (p .0, p .1, p .2)
   oldest-fell low e (f ∷ es) p =

@@ -38,7 +38,7 @@ no-stretch : (n : ℕ) → stretches (λ _. false) n ≡ 0
 no-stretch zero = refl
 no-stretch (suc n) = rw (no-stretch n)
 
-module _ (a b : ℕ) (below : a < b) where
+module _ (a b : ℕ) (upto : a ≤ b) where
   one-stretch : (e : Episode) → e .fall < e .rise → e .rise ≤ b → (n : ℕ) → stretches (covers a b e) n ≡ cond (leb (b - e .fall) n) 1 0
   one-stretch e fell le zero = grind (arith, tells)
   one-stretch e fell le (suc n) = rw (one-stretch e fell le n) (grind (arith, tells))

@@ -17,7 +17,8 @@ use Rattle.clock_pairs.specs.Meanings.{held, sound, told, meaning-of, holding}
 use Rattle.clock_pairs.proofs.Order.{Apart, decides-apart, few}
 
 pub record Served (a b : ℕ) : Type 0 where
-  pub below : a < b
+  pub upto : a ≤ b
+  pub some : 0 < b
   pub day : b ≤ 864000
   pub few : most-stretches a b ≤ 32
 
@@ -25,7 +26,8 @@ pub served-parts : (a b : ℕ) → served a b ≡ true → Served a b
 served-parts a b e =
     let p = and-parts (sound-window a b) (leb (most-stretches a b) 32) e in
     let q = and-parts (ltb a b) (leb b 864000) (p .0) in
-    record { below = ltb-true a b (q .0); day = leb-true b 864000 (q .1); few = leb-true (most-stretches a b) 32 (p .1) }
+    let below = ltb-true a b (q .0) in
+    record { upto = omega arith; some = omega arith; day = leb-true b 864000 (q .1); few = leb-true (most-stretches a b) 32 (p .1) }
 
 pub record Sound (c : ClockPairs) : Type 0 where
   pub window : served (c .a) (c .b) ≡ true

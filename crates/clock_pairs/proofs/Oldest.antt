@@ -51,14 +51,14 @@ module _ (m : ClockPairs) (full : length (m .episodes) ≡ 32) (s : Sound m) (so
     pub replies-not-yet : 0 < m .a - last .rise → Reply (m .a) (m .b) v (held m) false (Some (m .a - last .rise))
     replies-not-yet =
         by-oldest (λ es o. 0 < m .a - o .rise → Reply (m .a) (m .b) v es false (Some (m .a - o .rise)))
-        (not-yet (m .a) (m .b) (served-parts (m .a) (m .b) (s .window) .below) newest others gaps v)
+        (not-yet (m .a) (m .b) (served-parts (m .a) (m .b) (s .window) .upto) newest others gaps v)
 
     pub replies-until : m .a ≤ last .rise → (v ≡ true → m .b - last .fall < m .a) → Reply (m .a) (m .b) v (held m) true (Some (m .b - last .fall))
     replies-until =
         by-oldest (λ es o. m .a ≤ o .rise → (v ≡ true → m .b - o .fall < m .a) → Reply (m .a) (m .b) v es true (Some (m .b - o .fall)))
-        (until (m .a) (m .b) (served-parts (m .a) (m .b) (s .window) .below) newest others gaps v)
+        (until (m .a) (m .b) (served-parts (m .a) (m .b) (s .window) .upto) newest others gaps v)
 
     pub replies-for-ever : m .a ≤ last .rise → v ≡ true → m .a ≤ m .b - last .fall → Reply (m .a) (m .b) v (held m) true None
     replies-for-ever =
         by-oldest (λ es o. m .a ≤ o .rise → v ≡ true → m .a ≤ m .b - o .fall → Reply (m .a) (m .b) v es true None)
-        (for-ever (m .a) (m .b) (served-parts (m .a) (m .b) (s .window) .below) newest others gaps v)
+        (for-ever (m .a) (m .b) (served-parts (m .a) (m .b) (s .window) .upto) newest others gaps v)

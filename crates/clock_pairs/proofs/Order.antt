@@ -47,7 +47,7 @@ module _ (a b : ℕ) where
       let fits : length es ≤ (b - 1) / (b - a + 2) = le-div-iff-mul-le {k = b - a + 2} (omega arith) .1 (rw mul-comm (omega arith)) in
       omega arith
 
-  module _ (below : a < b) (n : ℕ) where
+  module _ (upto : a ≤ b) (n : ℕ) where
     -- n ticks on they are apart still
     pub apart-lasting : (low high : ℕ) (es : List Episode) → high ≤ low + n → Apart a b low es → Apart a b high (lasting b n es)
     apart-lasting low high [] le p = tt
@@ -60,8 +60,8 @@ module _ (a b : ℕ) where
         step false h rest = rest high (omega (arith, p .0, p .1))
 
     -- a first yes, where the newest episode fell too long ago
-    pub apart-new : 0 < n → (es : List Episode) → Apart a b (b - a + 1) es → Apart a b 0 (episode (min b n) 0 ∷ lasting b n es)
-    apart-new pos es p = (omega arith, omega arith, omega arith, apart-lasting (b - a + 1) (min b n + (b - a) + 1) es (omega arith) p)
+    pub apart-new : 0 < b → 0 < n → (es : List Episode) → Apart a b (b - a + 1) es → Apart a b 0 (episode (min b n) 0 ∷ lasting b n es)
+    apart-new some pos es p = (omega arith, omega arith, omega arith, apart-lasting (b - a + 1) (min b n + (b - a) + 1) es (omega arith) p)
 
     -- a yes that goes on with the newest episode
     pub apart-on : (e : Episode) (es : List Episode) → Apart a b 0 (e ∷ es) → Apart a b 0 (episode (min b (e .rise + n)) 0 ∷ lasting b n es)

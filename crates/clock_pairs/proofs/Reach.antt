@@ -22,7 +22,7 @@ or-moved : (x y z : Bool) → ((x || y) || z) ≡ ((x || z) || y)
 or-moved true y z = refl
 or-moved false y z = or-turned y z
 
-module _ (a b : ℕ) (below : a < b) where
+module _ (a b : ℕ) (upto : a ≤ b) where
   -- the yes ticks just taken reach what an episode of that age reaches
   pub meets-covers : (n d : ℕ) → 0 < n → meets a b n d ≡ covers a b (episode n 0) d
   meets-covers zero d pos = absurd (omega arith)

@@ -24,8 +24,8 @@ module _ (a b : ℕ) (w : served a b ≡ true) (es : List Episode) (n : ℕ) whe
   -- ticks at which the operand is no, or none
   pub takes-none : (v : Bool) → (v ≡ false) ⊎ (n ≡ 0) → Apart a b 0 es → meaning-of (holding a b (lasting b n es)) ≡ took v n (told a b es)
   takes-none v idle g =
-      holding-means a b (lasting b n es) w (apart-lasting a b (served-parts a b w .below) n 0 0 es (omega arith) g)
-      ∙ same-marks a b (reached a b (lasting b n es)) (taken a b v n (reached a b es)) (λ d. reached-lasting a b (served-parts a b w .below) n es d ∙ sym (quiet v idle d))
+      holding-means a b (lasting b n es) w (apart-lasting a b (served-parts a b w .upto) n 0 0 es (omega arith) g)
+      ∙ same-marks a b (reached a b (lasting b n es)) (taken a b v n (reached a b es)) (λ d. reached-lasting a b (served-parts a b w .upto) n es d ∙ sym (quiet v idle d))
     where
       or-false : (x : Bool) → (x || false) ≡ x
       or-false true = refl
@@ -42,13 +42,13 @@ module _ (a b : ℕ) (w : served a b ≡ true) (es : List Episode) (n : ℕ) whe
   -- yes ticks that begin an episode
   pub takes-new : 0 < n → Apart a b (b - a + 1) es → meaning-of (holding a b (episode (min b n) 0 ∷ lasting b n es)) ≡ took true n (told a b es)
   takes-new pos g =
-      let below = served-parts a b w .below in
-      holding-means a b (episode (min b n) 0 ∷ lasting b n es) w (apart-new a b below n pos es g)
-      ∙ same-marks a b (reached a b (episode (min b n) 0 ∷ lasting b n es)) (taken a b true n (reached a b es)) (λ d. reached-new a b below n es d pos)
+      let upto = served-parts a b w .upto in
+      holding-means a b (episode (min b n) 0 ∷ lasting b n es) w (apart-new a b upto n (served-parts a b w .some) pos es g)
+      ∙ same-marks a b (reached a b (episode (min b n) 0 ∷ lasting b n es)) (taken a b true n (reached a b es)) (λ d. reached-new a b upto n es d pos)
 
   -- yes ticks that go on with the newest episode, e
   pub takes-on : (e : Episode) → 0 < n → e .fall ≤ b - a → Apart a b 0 (e ∷ es) → meaning-of (holding a b (episode (min b (e .rise + n)) 0 ∷ lasting b n es)) ≡ took true n (told a b (e ∷ es))
   takes-on e pos near g =
-      let below = served-parts a b w .below in
-      holding-means a b (episode (min b (e .rise + n)) 0 ∷ lasting b n es) w (apart-on a b below n e es g)
-      ∙ same-marks a b (reached a b (episode (min b (e .rise + n)) 0 ∷ lasting b n es)) (taken a b true n (reached a b (e ∷ es))) (λ d. reached-on a b below n e es d pos near (omega (arith, g .1)))
+      let upto = served-parts a b w .upto in
+      holding-means a b (episode (min b (e .rise + n)) 0 ∷ lasting b n es) w (apart-on a b upto n e es g)
+      ∙ same-marks a b (reached a b (episode (min b (e .rise + n)) 0 ∷ lasting b n es)) (taken a b true n (reached a b (e ∷ es))) (λ d. reached-on a b upto n e es d pos near (omega (arith, g .1)))

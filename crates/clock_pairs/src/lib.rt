@@ -1,34 +1,43 @@
-//! Clock pairs: the window memory that holds episodes of its operand, each by two ages.
+//! Clock pairs: the window memory that holds the episodes of its operand, each by the ages of its rise and its fall.
+//!
+//! An episode is one unbroken stretch of yes ticks. It reaches the ticks ahead from `a - rise` on and before `b - fall`.
+//! It is dropped once its fall is b ticks old, and a gap of at most b - a ticks is erased, since the marks show no gap then.
+//! So the episodes are the stretches of the outlook, and a served window never has more than 32 of them.
 ghost use mathlib.Core.Path.{_≡_};
 ghost use mathlib.Core.Bool.{Bool, true, false};
-ghost use Prim.Native.Nat.{ℕ, _+_, _-_, min, _<_, _≤_};
-ghost use mathlib.Core.List.{List, [], _∷_, _++_};
-ghost use lib.ListN.{length, getD, take, drop};
+ghost use mathlib.Core.List.{[], _∷_, _++_};
+ghost use mathlib.Core.Logic.{_⊎_};
+ghost use Prim.Native.Nat.{_+_, _-_, min, _<_, _≤_};
+ghost use lib.ListN.{length, drop};
 ghost use Rattle.clock_pairs.specs.Episodes.{apart, covers, episode, lasting, older, reached, served, vacant};
 ghost use Rattle.clock_pairs.specs.Meanings.{goes-on, held, holding, meaning-of, sound, told};
-ghost use Rattle.mitl.specs.Memory.{ahead, clean, cleared, counted, Lasts, took};
-ghost use mathlib.Core.Logic.{_⊎_};
+ghost use Rattle.mitl.specs.Memory.{ahead, cleared, counted, Lasts, most-stretches, took};
 use window::Admission;
 use window::WindowMemory;
 
 // The most episodes that a memory holds.
 const MOST: usize = 32;
 
-// One unbroken stretch of yes ticks of the operand, by its ages in ticks.
+// The ticks of a day: no window looks back further.
+const DAY: u32 = 864_000;
+
+// One unbroken stretch of yes ticks of the operand.
 #[derive(Clone, Copy)]
 struct Episode {
-    // the age of its first yes tick
+    // the age of its first yes tick, in ticks
     rise: u32,
-    // the ticks taken since its last yes tick
+    // the ticks taken since its last yes tick: 0 while the operand is yes
     fall: u32,
 }
 
+// A window from a to b and its episodes.
 #[derive(Clone, Copy)]
 pub struct ClockPairs {
     a: u32,
     b: u32,
-    // how many episodes there are, newest first
+    // how many episodes there are
     len: u32,
+    // the episodes, newest first; the places behind them hold zeros
     episodes: [Episode; MOST],
 }
 
@@ -40,6 +49,7 @@ fn grown(age: u32, n: u32, b: u32) -> u32
 }
 
 impl Episode {
+    // The episode n ticks on.
     fn grow(self, n: u32, b: u32) -> Episode
         ensures { λ r. ⌜ r ≡ older b n self ⌝ }
     {
@@ -71,10 +81,33 @@ impl Episode {
     }
 }
 
+// The most episodes that the window from a to b can have.
+fn most_episodes(a: u32, b: u32) -> u32
+    requires { ⌜ (a ≤ b) × (0 < b) × (b ≤ 864000) ⌝ }
+    ensures { λ r. ⌜ r ≡ most-stretches a b ⌝ }
+{
+    1 + (b - 1) / (b - a + 2)
+}
+
+// Whether the window from a to b is served.
 fn serves(a: u32, b: u32) -> bool
     ensures { λ r. ⌜ r ≡ served a b ⌝ }
 {
-    a < b && b <= 864000 && 1 + (b - 1) / (b - a + 2) <= 32
+    a < b && b <= DAY && most_episodes(a, b) as usize <= MOST
+}
+
+// The verdict of the next tick and how long it lasts, without an episode.
+fn idle(a: u32, operand: bool) -> (bool, Option<u32>)
+    ensures next { λ r. ⌜ r .0 ≡ ahead a operand (λ _. false) 0 ⌝ }
+    ensures lasts { λ r. ⌜ Lasts (ahead a operand (λ _. false)) (r .0) (r .1) ⌝ }
+{
+    if !operand {
+        (false, None)
+    } else if a == 0 {
+        (true, None)
+    } else {
+        (false, Some(a))
+    }
 }
 
 impl ClockPairs {
@@ -90,6 +123,13 @@ impl ClockPairs {
         }
     }
 
+    // A new memory.
+    fn fresh() -> ClockPairs
+        ensures { λ r. ⌜ r ≡ holding 0 1 [] ⌝ }
+    {
+        ClockPairs::empty(0, 1)
+    }
+
     // Puts an episode behind the others.
     fn push(&mut self, e: Episode)
         requires tidy { ⌜ now self ≡ holding (now self .a) (now self .b) (held (now self)) ⌝ }
@@ -100,7 +140,7 @@ impl ClockPairs {
         self.len += 1;
     }
 
-    // `next` with the episodes from place `from` on behind its own, n ticks older and without those that fell b ticks ago.
+    // `next` with the episodes from place `from` on behind its own, n ticks on and without those that fell b ticks ago.
     fn carried(&self, from: u32, n: u32, mut next: ClockPairs) -> ClockPairs
         requires len { ⌜ now self .len ≤ 32 ⌝ }
         requires tidy { ⌜ next ≡ holding (next .a) (next .b) (held next) ⌝ }
@@ -129,9 +169,9 @@ impl ClockPairs {
         false
     }
 
-    // Whether the episodes are newest first, with their gaps longer than b - a ticks.
+    // Whether the episodes are newest first, none older than b, with gaps longer than b - a ticks.
     fn in_order(&self) -> bool
-        requires window { ⌜ (now self .a < now self .b) × (now self .b ≤ 864000) ⌝ }
+        requires window { ⌜ (now self .a ≤ now self .b) × (now self .b ≤ 864000) ⌝ }
         requires len { ⌜ now self .len ≤ 32 ⌝ }
         ensures { λ r. ⌜ r ≡ apart (now (self .entry) .a) (now (self .entry) .b) 0 (held (now (self .entry))) ⌝ }
     {
@@ -164,7 +204,7 @@ impl ClockPairs {
     fn is_sound(&self) -> bool
         ensures { λ r. ⌜ r ≡ sound (now (self .entry)) ⌝ }
     {
-        serves(self.a, self.b) && self.len <= 32 && self.in_order() && self.ends_empty()
+        serves(self.a, self.b) && self.len as usize <= MOST && self.in_order() && self.ends_empty()
     }
 
     // The memory itself where this kind made its content, else a new one.
@@ -177,13 +217,13 @@ impl ClockPairs {
         if self.is_sound() {
             self
         } else {
-            ClockPairs::empty(0, 1)
+            ClockPairs::fresh()
         }
     }
 
-    // Whether a yes now goes on with the newest episode: the gap behind it is at most b - a ticks.
+    // Whether a yes goes on with the newest episode: that fell at most b - a ticks ago, so that the gap is erased.
     fn goes_on(&self) -> bool
-        requires { ⌜ now self .a < now self .b ⌝ }
+        requires { ⌜ now self .a ≤ now self .b ⌝ }
         ensures { λ r. ⌜ r ≡ goes-on (now (self .entry)) ⌝ }
     {
         self.len > 0 && self.episodes[0].fall <= self.b - self.a
@@ -213,7 +253,7 @@ impl ClockPairs {
         }
     }
 
-    // The memory after n ticks at which the operand is no.
+    // The memory after n ticks at which the operand is no, or after none.
     fn after_no(self, n: u32) -> ClockPairs
         requires { ⌜ sound self ≡ true ⌝ }
         ensures { λ r. ⌜ ((v : Bool) → (v ≡ false) ⊎ (n ≡ 0) → meaning-of r ≡ took v n (told (self .a) (self .b) (held self))) ⌝ }
@@ -263,20 +303,6 @@ impl ClockPairs {
     }
 }
 
-// The verdict of the next tick and how long it lasts, without an episode.
-fn idle(a: u32, operand: bool) -> (bool, Option<u32>)
-    ensures next { λ r. ⌜ r .0 ≡ ahead a operand (λ _. false) 0 ⌝ }
-    ensures lasts { λ r. ⌜ Lasts (ahead a operand (λ _. false)) (r .0) (r .1) ⌝ }
-{
-    if !operand {
-        (false, None)
-    } else if a == 0 {
-        (true, None)
-    } else {
-        (false, Some(a))
-    }
-}
-
 pub impl Admission for ClockPairs as ClockPairsAdmission {
     ghost admitted = { served };
 
@@ -289,7 +315,7 @@ pub impl WindowMemory for ClockPairs as ClockPairsMemory {
     ghost meaning = { meaning-of };
 
     fn new() -> ClockPairs {
-        ClockPairs::empty(0, 1)
+        ClockPairs::fresh()
     }
 
     fn prepare(&mut self, a: u32, b: u32) -> bool {

@@ -18,7 +18,7 @@ carried-requires c κs =
       len = s .room;
       tidy = tidy-from (c .empty .result) (m .a) (m .b) [] (c .empty .ensures);
       room = room-behind (c .empty .result) (m .a) (m .b) [] more (c .empty .ensures)
-          (room-for (m .a) (m .b) more (s .window) (apart-lasting (m .a) (m .b) (served-parts (m .a) (m .b) (s .window) .below) (c .args .n) 0 0 (held m) (omega arith) (s .gaps)));
+          (room-for (m .a) (m .b) more (s .window) (apart-lasting (m .a) (m .b) (served-parts (m .a) (m .b) (s .window) .upto) (c .args .n) 0 0 (held m) (omega arith) (s .gaps)));
     }
 
 pub returns : need.returns

@@ -63,7 +63,7 @@ carried-requires c κs =
       tidy = tidy-from (c .rising .result) (m .a) (m .b) front is;
       room = room-behind (c .rising .result) (m .a) (m .b) front more is
           (room-for (m .a) (m .b) (episode (min (m .b) (e .rise + n)) 0 ∷ more) (s .window)
-          (apart-on (m .a) (m .b) (served-parts (m .a) (m .b) (s .window) .below) n e (drop 1 (held m)) (on-gaps m full s (c .if-goes-on .ensures tt))));
+          (apart-on (m .a) (m .b) (served-parts (m .a) (m .b) (s .window) .upto) n e (drop 1 (held m)) (on-gaps m full s (c .if-goes-on .ensures tt))));
     }
 
 pub carried-requires-else-goes-on : need.carried-requires-else-goes-on
@@ -81,7 +81,7 @@ carried-requires-else-goes-on c κs =
       tidy = tidy-from next (m .a) (m .b) front is;
       room = room-behind next (m .a) (m .b) front more is
           (room-for (m .a) (m .b) (episode (min (m .b) n) 0 ∷ more) (s .window)
-          (apart-new (m .a) (m .b) (served-parts (m .a) (m .b) (s .window) .below) n (c .pre .ticks) (held m) (far m full s (c .if-goes-on .ensures tt))));
+          (apart-new (m .a) (m .b) (served-parts (m .a) (m .b) (s .window) .upto) n (served-parts (m .a) (m .b) (s .window) .some) (c .pre .ticks) (held m) (far m full s (c .if-goes-on .ensures tt))));
     }
 
 pub returns-then-goes-on : need.returns-then-goes-on

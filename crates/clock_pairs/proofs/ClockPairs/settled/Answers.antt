@@ -21,5 +21,5 @@ returns-then-is-sound c =
       sound = is;
       window = s .window;
       means = told-by;
-      counts = ap counted told-by ∙ count-is (m .a) (m .b) (served-parts (m .a) (m .b) (s .window) .below) 0 (held m) (s .gaps) ∙ length-take-le (m .len) (m .episodes) (omega (arith, s .room));
+      counts = ap counted told-by ∙ count-is (m .a) (m .b) (served-parts (m .a) (m .b) (s .window) .upto) 0 (held m) (s .gaps) ∙ length-take-le (m .len) (m .episodes) (omega (arith, s .room));
     }
