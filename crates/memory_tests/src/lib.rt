@@ -39,28 +39,45 @@ mod tests {
         runs::<M>()
     }
 
+    // The window 3 to 4 after some takes: its marks and their stretches.
     fn outlooks<M: WindowMemory>() -> Result<(), Fail> {
-        shows(&M::new(), b".", 0)?;
-        shows(&after::<M>(3, 4, &[])?, b"....", 0)?;
-        shows(&after::<M>(3, 4, &[(true, 1), (false, 2), (true, 1)])?, b"#.##", 2)?;
-        // the gap split over two takes
-        shows(&after::<M>(3, 4, &[(true, 1), (false, 1), (false, 1), (true, 1)])?, b"#.##", 2)?;
-        shows(&after::<M>(3, 4, &[(true, 1), (false, 1), (true, 1)])?, b"####", 1)?;
-        shows(&after::<M>(3, 4, &[(true, 1), (true, 0), (false, 0)])?, b"..##", 1)?;
-        shows(&after::<M>(3, 4, &[(true, u32::MAX)])?, b"####", 1)?;
-        shows(&after::<M>(3, 4, &[(true, 1), (false, u32::MAX)])?, b"....", 0)?;
+        let examples: [(&[(bool, u32)], &[u8], u32); 7] = [
+            (&[], b"....", 0),
+            (&[(true, 1), (false, 2), (true, 1)], b"#.##", 2),
+            // the gap split over two takes
+            (&[(true, 1), (false, 1), (false, 1), (true, 1)], b"#.##", 2),
+            (&[(true, 1), (false, 1), (true, 1)], b"####", 1),
+            (&[(true, 1), (true, 0), (false, 0)], b"..##", 1),
+            (&[(true, u32::MAX)], b"####", 1),
+            (&[(true, 1), (false, u32::MAX)], b"....", 0),
+        ];
+        for (takes, marks, stretches) in examples {
+            shows(&after::<M>(3, 4, takes)?, marks, stretches)?;
+        }
         let mut m = after::<M>(3, 4, &[(true, 1)])?;
         m.clear();
-        shows(&m, b"....", 0)
+        shows(&m, b"....", 0)?;
+        shows(&M::new(), b".", 0)
     }
 
+    // A window after a take of yes and one of no: how long the verdict lasts.
     fn runs<M: WindowMemory>() -> Result<(), Fail> {
-        lasts(&after::<M>(3, 4, &[])?, (false, None), (false, Some(3)))?;
-        lasts(&after::<M>(3, 4, &[(true, 1), (false, 2), (true, 1)])?, (true, Some(1)), (true, Some(1)))?;
-        lasts(&after::<M>(3, 4, &[(true, 2)])?, (false, Some(1)), (false, Some(1)))?;
-        lasts(&after::<M>(3, 4, &[(true, 4)])?, (true, Some(4)), (true, None))?;
-        lasts(&after::<M>(60, 70, &[(true, 1)])?, (false, Some(59)), (false, Some(59)))?;
-        lasts(&after::<M>(60, 70, &[(true, 1), (false, 59)])?, (true, Some(11)), (true, Some(11)))
+        let examples: [(u32, u32, u32, u32, (bool, Option<u32>), (bool, Option<u32>)); 6] = [
+            (3, 4, 0, 0, (false, None), (false, Some(3))),
+            (3, 4, 1, 0, (false, Some(2)), (false, Some(2))),
+            (3, 4, 1, 3, (true, Some(1)), (true, Some(1))),
+            (3, 4, 4, 0, (true, Some(4)), (true, None)),
+            (60, 70, 1, 0, (false, Some(59)), (false, Some(59))),
+            (60, 70, 1, 59, (true, Some(11)), (true, Some(11))),
+        ];
+        for (a, b, yes, no, if_no, if_yes) in examples {
+            lasts(
+                &after::<M>(a, b, &[(true, yes), (false, no)])?,
+                if_no,
+                if_yes,
+            )?;
+        }
+        Ok(())
     }
 
     // A memory of this window after some takes.
@@ -86,7 +103,11 @@ mod tests {
     }
 
     // The verdict and how long it lasts, if the operand stays no and if it stays yes.
-    fn lasts<M: WindowMemory>(m: &M, no: (bool, Option<u32>), yes: (bool, Option<u32>)) -> Result<(), Fail> {
+    fn lasts<M: WindowMemory>(
+        m: &M,
+        no: (bool, Option<u32>),
+        yes: (bool, Option<u32>),
+    ) -> Result<(), Fail> {
         let (verdict, ticks) = m.run(false);
         check_eq(verdict, no.0)?;
         check_eq(ticks, no.1)?;
