@@ -11,12 +11,12 @@ use Rattle.std.proofs.shelf.Ways.{tells, same-from-decides, decides-like, decid
 use Rattle.mitl.proofs.Tests.{decides-leb, decides-some}
 use Rattle.mitl.specs.Windows.{sound-window}
 use Rattle.mitl.specs.Memory.{Meaning, clean, new-memory, took, taken, meets, ahead}
-use Rattle.bit_marks.specs.Marks.{bits-admit, marked, ends-by, sound, of-bits, bits-mean}
+use Rattle.bit_marks.specs.Marks.{served, marked, ends-by, sound, told, meaning-of}
 use Rattle.bit_marks.specs.declared.BitMarks.{BitMarks}
 use Rattle.bit_marks.proofs.Places.{ends-decided}
 
-pub when-sound : (m : BitMarks) → sound m ≡ true → bits-mean m ≡ of-bits m
-when-sound m e = cond-true (sound m) (of-bits m) new-memory e
+pub when-sound : (m : BitMarks) → sound m ≡ true → meaning-of m ≡ told m
+when-sound m e = cond-true (sound m) (told m) new-memory e
 
 pub record Parts (m : BitMarks) : Type 0 where
   pub order : m .a < m .b
@@ -26,22 +26,22 @@ pub record Parts (m : BitMarks) : Type 0 where
 
 pub parts : (m : BitMarks) → sound m ≡ true → Parts m
 parts m e =
-    let p = and-parts (bits-admit (m .a) (m .b)) (ends-by (m .b) (m .words)) e in
+    let p = and-parts (served (m .a) (m .b)) (ends-by (m .b) (m .words)) e in
     let q = and-parts (sound-window (m .a) (m .b)) (leb (m .b) 1000) (p .0) in
     let s = and-parts (ltb (m .a) (m .b)) (leb (m .b) 864000) (q .0) in
     record { order = ltb-true _ _ (s .0); small = leb-true _ _ (q .1); within = p .1; none = ends-decided (m .b) (m .words) .0 (p .1) }
 
 -- past the marks there is no yes
-pub marks-within : (m : BitMarks) (d : ℕ) → bits-mean m .b ≤ d → bits-mean m .mark d ≡ false
+pub marks-within : (m : BitMarks) (d : ℕ) → meaning-of m .b ≤ d → meaning-of m .mark d ≡ false
 marks-within m d h = ⊎-elim kept new (cases-bool (sound m))
   where
-    kept : sound m ≡ true → bits-mean m .mark d ≡ false
+    kept : sound m ≡ true → meaning-of m .mark d ≡ false
     kept e =
         let w = when-sound m e in
         ap (λ (t : Meaning). t .mark d) w ∙ parts m e .none d (subst (λ (t : Meaning). t .b ≤ d) w h)
 
-    new : sound m ≡ false → bits-mean m .mark d ≡ false
-    new e = ap (λ (t : Meaning). t .mark d) (cond-false (sound m) (of-bits m) new-memory e)
+    new : sound m ≡ false → meaning-of m .mark d ≡ false
+    new e = ap (λ (t : Meaning). t .mark d) (cond-false (sound m) (told m) new-memory e)
 
 -- from b on the verdict is the operand
 pub past-ahead : (m : BitMarks) → sound m ≡ true → (v : Bool) (d : ℕ) → m .b ≤ d → ahead (m .a) v (marked (m .words)) d ≡ v
@@ -59,12 +59,12 @@ the-marks a b ws = record { a = a; b = b; words = ws }
 abbrev meant : ℕ → ℕ → (ℕ → Bool) → Meaning
 meant a b f = record { a = a; b = b; mark = f }
 
-module _ (a b : ℕ) (ws : List ℕ) (f : ℕ → Bool) (admitted : bits-admit a b ≡ true) (same : (d : ℕ) → marked ws d ≡ f d) (none : (d : ℕ) → b ≤ d → f d ≡ false) where
+module _ (a b : ℕ) (ws : List ℕ) (f : ℕ → Bool) (admitted : served a b ≡ true) (same : (d : ℕ) → marked ws d ≡ f d) (none : (d : ℕ) → b ≤ d → f d ≡ false) where
   -- words with the marks f are sound, and mean these
   pub marks-sound : sound (the-marks a b ws) ≡ true
-  marks-sound = and-from (bits-admit a b) (ends-by b ws) admitted (ends-decided b ws .1 (λ d h. same d ∙ none d h))
+  marks-sound = and-from (served a b) (ends-by b ws) admitted (ends-decided b ws .1 (λ d h. same d ∙ none d h))
 
-  pub marks-mean : bits-mean (the-marks a b ws) ≡ meant a b f
+  pub marks-mean : meaning-of (the-marks a b ws) ≡ meant a b f
   marks-mean = when-sound (the-marks a b ws) marks-sound ∙ ap (meant a b) (fun-ext same)
 
 -- a tick d ahead is within reach of one of the n ticks taken

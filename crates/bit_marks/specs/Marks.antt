@@ -10,8 +10,8 @@ use Rattle.mitl.specs.Memory.{Meaning, new-memory}
 use Rattle.bit_marks.specs.declared.BitMarks.{BitMarks}
 
 -- The limit: there are at most 1000 marks.
-abbrev pub bits-admit : ℕ → ℕ → Bool
-bits-admit a b = sound-window a b && leb b 1000
+abbrev pub served : ℕ → ℕ → Bool
+served a b = sound-window a b && leb b 1000
 
 -- Mark d is bit d % 64 of word d / 64, bit 0 being the least; beyond the words every mark is no.
 abbrev pub marked : List ℕ → ℕ → Bool
@@ -23,11 +23,11 @@ ends-by b ws = all-below (λ d. not (leb b d && marked ws d)) (64 * length ws)
 
 -- content that this kind makes
 abbrev pub sound : BitMarks → Bool
-sound m = bits-admit (m .a) (m .b) && ends-by (m .b) (m .words)
+sound m = served (m .a) (m .b) && ends-by (m .b) (m .words)
 
-abbrev pub of-bits : BitMarks → Meaning
-of-bits m = record { a = m .a; b = m .b; mark = marked (m .words) }
+abbrev pub told : BitMarks → Meaning
+told m = record { a = m .a; b = m .b; mark = marked (m .words) }
 
 -- content that this kind never makes means a new memory
-abbrev pub bits-mean : BitMarks → Meaning
-bits-mean m = cond (sound m) (of-bits m) new-memory
+abbrev pub meaning-of : BitMarks → Meaning
+meaning-of m = cond (sound m) (told m) new-memory

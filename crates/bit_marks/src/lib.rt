@@ -1,15 +1,16 @@
 //! The window memory that keeps its marks as the bits of machine words.
 //!
-//! It serves every window with at most a thousand marks. Content that it never makes, a window that it does not
-//! serve or a bit beyond the marks, means a new memory, and every function behaves so on it.
+//! Mark d is bit d % 64 of word d / 64, and there are words for a thousand marks. Content that this kind never makes,
+//! a window that it does not serve or a bit beyond the marks, means a new memory, and every function behaves so on it.
 ghost use mathlib.Core.Path.{_≡_};
 ghost use mathlib.Core.Bool.{Bool, true, false, cond, _&&_};
 ghost use Prim.Native.Nat.{ℕ, _<_, _≤_};
 ghost use lib.Dec.{ltb};
 ghost use Rattle.mitl.specs.Memory.{clean, new-memory, took, ahead, Lasts};
-ghost use Rattle.bit_marks.specs.Marks.{bits-admit, marked, sound, bits-mean};
+ghost use Rattle.bit_marks.specs.Marks.{marked, meaning-of, served, sound};
 use window::Admission;
 use window::WindowMemory;
+use words::WORDS;
 use words::advanced;
 use words::all_below;
 use words::mark;
@@ -20,74 +21,19 @@ mod words;
 // The most marks that are kept.
 const LIMIT: u32 = 1_000;
 
-// A window and its marks.
+// A window from a to b and its marks.
 #[derive(Clone, Copy)]
 pub struct BitMarks {
     a: u32,
     b: u32,
-    words: [u64; 16],
+    words: [u64; WORDS],
 }
 
-// Whether there are marks enough for the window from a to b.
-fn fits(a: u32, b: u32) -> bool
-    ensures { λ r. ⌜ r ≡ bits-admit a b ⌝ }
+// Whether this kind has marks enough for the window from a to b.
+fn serves(a: u32, b: u32) -> bool
+    ensures { λ r. ⌜ r ≡ served a b ⌝ }
 {
     a < b && b <= LIMIT
-}
-
-// The window from a to b with all marks no.
-fn blank(a: u32, b: u32) -> BitMarks
-    requires { ⌜ bits-admit a b ≡ true ⌝ }
-    ensures sound { λ r. ⌜ sound r ≡ true ⌝ }
-    ensures means { λ r. ⌜ bits-mean r ≡ clean a b ⌝ }
-{
-    BitMarks {
-        a,
-        b,
-        words: [0; 16],
-    }
-}
-
-// The window 0 to 1 and its mark no.
-fn fresh() -> BitMarks
-    ensures sound { λ r. ⌜ sound r ≡ true ⌝ }
-    ensures means { λ r. ⌜ bits-mean r ≡ new-memory ⌝ }
-{
-    blank(0, 1)
-}
-
-// The marks themselves where their content is sound, else a new memory.
-fn settled(m: BitMarks) -> BitMarks
-    ensures sound { λ r. ⌜ sound r ≡ true ⌝ }
-    ensures means { λ r. ⌜ bits-mean r ≡ bits-mean m ⌝ }
-{
-    if fits(m.a, m.b) && all_below(&m.words, m.b as usize) {
-        m
-    } else {
-        fresh()
-    }
-}
-
-// The verdict d ticks ahead, if the operand stays as it is.
-fn verdict(m: &BitMarks, operand: bool, d: u32) -> bool
-    ensures { λ r. ⌜ r ≡ ahead (now (m .entry) .a) operand (marked (now (m .entry) .words)) d ⌝ }
-{
-    mark(&m.words, d as usize) || operand && m.a <= d
-}
-
-// The verdict of the next tick and how long it lasts: from tick b on the verdict is the operand.
-fn lasting(m: &BitMarks, operand: bool) -> (bool, Option<u32>)
-    requires { ⌜ sound (now m) ≡ true ⌝ }
-    ensures next { λ r. ⌜ r .0 ≡ ahead (now (m .entry) .a) operand (marked (now (m .entry) .words)) 0 ⌝ }
-    ensures lasts { λ r. ⌜ Lasts (ahead (now (m .entry) .a) operand (marked (now (m .entry) .words))) (r .0) (r .1) ⌝ }
-{
-    let next = verdict(m, operand, 0);
-    for d in 1..m.b + 1 {
-        if verdict(m, operand, d) != next {
-            return (next, Some(d));
-        }
-    }
-    (next, None)
 }
 
 // Where the marks end that n ticks with this operand set: at b, or at 0 where they set none.
@@ -97,46 +43,90 @@ fn set_end(b: u32, operand: bool, n: u32) -> u32
     if operand && n > 0 { b } else { 0 }
 }
 
-// Sound marks after n ticks at which the operand has this value.
-fn taken_by(m: BitMarks, operand: bool, n: u32) -> BitMarks
-    requires { ⌜ sound m ≡ true ⌝ }
-    ensures { λ r. ⌜ bits-mean r ≡ took operand n (bits-mean m) ⌝ }
-{
-    // the marks from a - n on and below b come within reach of the ticks taken
-    let first = m.a.saturating_sub(n);
-    let end = set_end(m.b, operand, n);
-    let words = advanced(
-        &m.words,
-        m.b as usize,
-        n as usize,
-        first as usize,
-        end as usize,
-    );
-    BitMarks {
-        a: m.a,
-        b: m.b,
-        words,
+impl BitMarks {
+    // The window from a to b with all marks no.
+    fn empty(a: u32, b: u32) -> BitMarks
+        requires { ⌜ served a b ≡ true ⌝ }
+        ensures sound { λ r. ⌜ sound r ≡ true ⌝ }
+        ensures means { λ r. ⌜ meaning-of r ≡ clean a b ⌝ }
+    {
+        let words = [0; WORDS];
+        BitMarks { a, b, words }
+    }
+
+    // A new memory.
+    fn fresh() -> BitMarks
+        ensures sound { λ r. ⌜ sound r ≡ true ⌝ }
+        ensures means { λ r. ⌜ meaning-of r ≡ new-memory ⌝ }
+    {
+        BitMarks::empty(0, 1)
+    }
+
+    // The memory itself where this kind made its content, else a new one.
+    fn settled(self) -> BitMarks
+        ensures sound { λ r. ⌜ sound r ≡ true ⌝ }
+        ensures means { λ r. ⌜ meaning-of r ≡ meaning-of self ⌝ }
+    {
+        if serves(self.a, self.b) && all_below(&self.words, self.b as usize) {
+            self
+        } else {
+            BitMarks::fresh()
+        }
+    }
+
+    // The memory after n ticks at which the operand has this value.
+    fn after(self, operand: bool, n: u32) -> BitMarks
+        requires { ⌜ sound self ≡ true ⌝ }
+        ensures { λ r. ⌜ meaning-of r ≡ took operand n (meaning-of self) ⌝ }
+    {
+        // the marks from a - n on and below b are within reach of the ticks taken
+        let first = self.a.saturating_sub(n) as usize;
+        let end = set_end(self.b, operand, n) as usize;
+        let words = advanced(&self.words, self.b as usize, n as usize, first, end);
+        BitMarks { words, ..self }
+    }
+
+    // The verdict d ticks ahead, if the operand stays as it is.
+    fn verdict(&self, operand: bool, d: u32) -> bool
+        ensures { λ r. ⌜ r ≡ ahead (now (self .entry) .a) operand (marked (now (self .entry) .words)) d ⌝ }
+    {
+        mark(&self.words, d as usize) || operand && self.a <= d
+    }
+
+    // The verdict of the next tick and how long it lasts: from tick b on it is the operand.
+    fn forecast(&self, operand: bool) -> (bool, Option<u32>)
+        requires { ⌜ sound (now self) ≡ true ⌝ }
+        ensures next { λ r. ⌜ r .0 ≡ ahead (now (self .entry) .a) operand (marked (now (self .entry) .words)) 0 ⌝ }
+        ensures lasts { λ r. ⌜ Lasts (ahead (now (self .entry) .a) operand (marked (now (self .entry) .words))) (r .0) (r .1) ⌝ }
+    {
+        let next = self.verdict(operand, 0);
+        for d in 1..self.b + 1 {
+            if self.verdict(operand, d) != next {
+                return (next, Some(d));
+            }
+        }
+        (next, None)
     }
 }
 
-pub impl Admission for BitMarks as BitAdmission {
-    ghost admitted = { bits-admit };
+pub impl Admission for BitMarks as BitMarksAdmission {
+    ghost admitted = { served };
 
     fn admits(a: u32, b: u32) -> bool {
-        fits(a, b)
+        serves(a, b)
     }
 }
 
-pub impl WindowMemory for BitMarks as BitMemory {
-    ghost meaning = { bits-mean };
+pub impl WindowMemory for BitMarks as BitMarksMemory {
+    ghost meaning = { meaning-of };
 
     fn new() -> BitMarks {
-        fresh()
+        BitMarks::fresh()
     }
 
     fn prepare(&mut self, a: u32, b: u32) -> bool {
-        if fits(a, b) {
-            *self = blank(a, b);
+        if serves(a, b) {
+            *self = BitMarks::empty(a, b);
             true
         } else {
             false
@@ -144,27 +134,24 @@ pub impl WindowMemory for BitMarks as BitMemory {
     }
 
     fn clear(&mut self) {
-        let m = settled(*self);
-        *self = blank(m.a, m.b);
+        let m = self.settled();
+        *self = BitMarks::empty(m.a, m.b);
     }
 
     fn look(&self, d: u32) -> bool {
-        let m = settled(*self);
-        mark(&m.words, d as usize)
+        mark(&self.settled().words, d as usize)
     }
 
     fn take(&mut self, operand: bool, n: u32) {
-        let m = settled(*self);
-        *self = taken_by(m, operand, n);
+        *self = self.settled().after(operand, n);
     }
 
     fn run(&self, operand: bool) -> (bool, Option<u32>) {
-        let m = settled(*self);
-        lasting(&m, operand)
+        self.settled().forecast(operand)
     }
 
     fn count(&self) -> u32 {
-        let m = settled(*self);
+        let m = self.settled();
         stretch_count(&m.words, m.b as usize)
     }
 }

@@ -1,4 +1,4 @@
-//! Marks in sixteen words: mark d is bit d % 64 of word d / 64, bit 0 being the least.
+//! Marks in words: mark d is bit d % 64 of word d / 64, bit 0 being the least.
 ghost use mathlib.Core.Path.{_≡_};
 ghost use mathlib.Core.Bool.{Bool, true, false, not, cond, _&&_, _||_};
 ghost use Prim.Native.Nat.{ℕ, _+_, _-_, _*_, _^_, _<_, _≤_};
@@ -7,6 +7,9 @@ ghost use lib.ListN.{getD};
 ghost use Rattle.mitl.specs.Formulas.{bit};
 ghost use Rattle.mitl.specs.Memory.{stretches};
 ghost use Rattle.bit_marks.specs.Marks.{marked, ends-by};
+
+// Enough for a thousand marks.
+pub(crate) const WORDS: usize = 16;
 
 // Whether bit k of the word is set.
 fn has(word: u64, k: usize) -> bool
@@ -17,14 +20,14 @@ fn has(word: u64, k: usize) -> bool
 }
 
 // Word `at`, which is zero beyond the words.
-fn word_at(words: &[u64; 16], at: usize) -> u64
+fn word_at(words: &[u64; WORDS], at: usize) -> u64
     ensures { λ r. ⌜ r ≡ getD (now (words .entry)) at 0 ⌝ }
 {
-    if at < 16 { words[at] } else { 0 }
+    if at < WORDS { words[at] } else { 0 }
 }
 
 // Mark d.
-pub(crate) fn mark(words: &[u64; 16], d: usize) -> bool
+pub(crate) fn mark(words: &[u64; WORDS], d: usize) -> bool
     ensures { λ r. ⌜ r ≡ marked (now (words .entry)) d ⌝ }
 {
     has(word_at(words, d / 64), d % 64)
@@ -64,7 +67,7 @@ fn joined(low: u64, high: u64, by: usize) -> u64
 }
 
 // The 64 marks from mark d on, as a word.
-fn from_mark(words: &[u64; 16], d: usize) -> u64
+fn from_mark(words: &[u64; WORDS], d: usize) -> u64
     ensures { λ r. ⌜ ((k : ℕ) → k < 64 → bit k r ≡ marked (now (words .entry)) (d + k)) ⌝ }
 {
     let at = d / 64;
@@ -81,10 +84,10 @@ fn words_for(b: usize) -> usize
 }
 
 // Whether no mark from b on is set.
-pub(crate) fn all_below(words: &[u64; 16], b: usize) -> bool
+pub(crate) fn all_below(words: &[u64; WORDS], b: usize) -> bool
     ensures { λ r. ⌜ r ≡ ends-by b (now (words .entry)) ⌝ }
 {
-    for at in b / 64..16 {
+    for at in b / 64..WORDS {
         if word_at(words, at) & !below(b, at) != 0 {
             return false;
         }
@@ -93,7 +96,7 @@ pub(crate) fn all_below(words: &[u64; 16], b: usize) -> bool
 }
 
 // Word `at` of the marks moved down by n places.
-fn moved(words: &[u64; 16], n: usize, at: usize) -> u64
+fn moved(words: &[u64; WORDS], n: usize, at: usize) -> u64
     requires within { ⌜ at < 16 ⌝ }
     requires small { ⌜ n < 2 ^ 32 ⌝ }
     ensures { λ r. ⌜ ((k : ℕ) → k < 64 → bit k r ≡ marked (now (words .entry)) (64 * at + n + k)) ⌝ }
@@ -102,14 +105,20 @@ fn moved(words: &[u64; 16], n: usize, at: usize) -> u64
 }
 
 // Of marks below b: these moved down by n places, and the marks from `first` on and below `end` set.
-pub(crate) fn advanced(words: &[u64; 16], b: usize, n: usize, first: usize, end: usize) -> [u64; 16]
+pub(crate) fn advanced(
+    words: &[u64; WORDS],
+    b: usize,
+    n: usize,
+    first: usize,
+    end: usize,
+) -> [u64; WORDS]
     requires few { ⌜ b ≤ 1000 ⌝ }
     requires within { ⌜ ends-by b (now words) ≡ true ⌝ }
     requires small { ⌜ n < 2 ^ 32 ⌝ }
     requires inside { ⌜ end ≤ b ⌝ }
     ensures { λ r. ⌜ ((d : ℕ) → marked r d ≡ (marked (now (words .entry)) (d + n) || (leb first d && ltb d end))) ⌝ }
 {
-    let mut after = [0; 16];
+    let mut after = [0; WORDS];
     for at in 0..words_for(b) {
         after[at] = moved(words, n, at) | between(first, end, at);
     }
@@ -117,7 +126,7 @@ pub(crate) fn advanced(words: &[u64; 16], b: usize, n: usize, first: usize, end:
 }
 
 // Word `at` with the bits of the marks that end a stretch: they are yes, and the next is no.
-fn ends(words: &[u64; 16], at: usize) -> u64
+fn ends(words: &[u64; WORDS], at: usize) -> u64
     requires { ⌜ at < 16 ⌝ }
     ensures { λ r. ⌜ ((k : ℕ) → k < 64 → bit k r ≡ (marked (now (words .entry)) (64 * at + k) && not (marked (now (words .entry)) (64 * at + 1 + k)))) ⌝ }
 {
@@ -125,7 +134,7 @@ fn ends(words: &[u64; 16], at: usize) -> u64
 }
 
 // Of marks below b: how many unbroken stretches of yes they have.
-pub(crate) fn stretch_count(words: &[u64; 16], b: usize) -> u32
+pub(crate) fn stretch_count(words: &[u64; WORDS], b: usize) -> u32
     requires few { ⌜ b ≤ 1000 ⌝ }
     requires within { ⌜ ends-by b (now words) ≡ true ⌝ }
     ensures { λ r. ⌜ r ≡ stretches (marked (now (words .entry))) b ⌝ }

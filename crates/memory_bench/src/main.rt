@@ -1,7 +1,7 @@
 //! How long each function of the window memories takes. With the word `run` it measures; else it says how to start it.
-use bit_marks::BitAdmission;
 use bit_marks::BitMarks;
-use bit_marks::BitMemory;
+use bit_marks::BitMarksAdmission;
+use bit_marks::BitMarksMemory;
 use clock_pairs::ClockPairs;
 use clock_pairs::ClockPairsAdmission;
 use clock_pairs::ClockPairsMemory;

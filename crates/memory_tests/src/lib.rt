@@ -2,9 +2,9 @@
 
 #[cfg(test)]
 mod tests {
-    use bit_marks::BitAdmission;
     use bit_marks::BitMarks;
-    use bit_marks::BitMemory;
+    use bit_marks::BitMarksAdmission;
+    use bit_marks::BitMarksMemory;
     use clock_pairs::ClockPairs;
     use clock_pairs::ClockPairsAdmission;
     use clock_pairs::ClockPairsMemory;

@@ -3,7 +3,7 @@ use mathlib.Core.Path.{_≡_}
 use Prim.Native.Nat.{ℕ, _<_}
 use Rattle.mitl.specs.Memory.{ahead}
 use Rattle.bit_marks.specs.Marks.{marked}
-use Rattle.bit_marks.proofs.lasting.Given as given
+use Rattle.bit_marks.proofs.BitMarks.forecast.Given as given
 
 abbrev pub Inv-loop-d : given.InvT-loop-d
-Inv-loop-d l = (k : ℕ) → k < l .d → ahead (l .m .a) (l .operand) (marked (l .m .words)) k ≡ l .next
+Inv-loop-d l = (k : ℕ) → k < l .d → ahead (l .self .a) (l .operand) (marked (l .self .words)) k ≡ l .next

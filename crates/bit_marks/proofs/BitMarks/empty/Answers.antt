@@ -8,7 +8,7 @@ use Rattle.bit_marks.specs.Marks.{marked}
 use Rattle.bit_marks.proofs.Bits.{zero-bit}
 use Rattle.bit_marks.proofs.Places.{zeros}
 use Rattle.bit_marks.proofs.Means.{marks-sound, marks-mean}
-use Rattle.bit_marks.proofs.blank.Needs as need
+use Rattle.bit_marks.proofs.BitMarks.empty.Needs as need
 
 none : (d : ℕ) → marked (replicate 16 0) d ≡ false
 none d = ap (bit (d % 64)) (zeros 16 (d / 64)) ∙ zero-bit (d % 64)
