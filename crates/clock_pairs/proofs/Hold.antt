@@ -1,14 +1,14 @@
 -- Content and the episodes that it holds. Assumes nothing.
 use mathlib.Core.Path.{_≡_, refl, sym, ap, ap₂, subst, _∙_}
-use mathlib.Core.Bool.{Bool, true, false, cond, _&&_}
+use mathlib.Core.Bool.{true, cond, _&&_}
 use mathlib.Core.List.{List, [], _∷_, _++_}
 use Prim.Native.Nat.{ℕ, zero, suc, _+_, _-_, _<_, _≤_}
 use native.Mathlib.Omega.{arith}
 use lib.Dec.{leb, ltb}
 use lib.ListN.{length, getD, take, drop, replicate, set}
-use Rattle.std.proofs.shelf.Tests.{cond-true, and-from, and-parts, le-leb, leb-true, ltb-true, eqb-true}
+use Rattle.std.proofs.shelf.Tests.{cond-true, and-from, and-parts, le-leb, leb-true, ltb-true}
 use Rattle.std.proofs.shelf.Lists.{append-assoc, drop-all, drop-at, drop-more, getD-take, length-push, length-take, length-take-le, set-at, take-at}
-use Rattle.mitl.specs.Memory.{Meaning, new-memory, most-stretches}
+use Rattle.mitl.specs.Memory.{new-memory, most-stretches}
 use Rattle.mitl.specs.Windows.{sound-window}
 use Rattle.clock_pairs.specs.declared.Episode.{Episode}
 use Rattle.clock_pairs.specs.declared.ClockPairs.{ClockPairs}

@@ -1,11 +1,11 @@
 -- The steps of the loops over a memory's places. Assumes nothing.
-use mathlib.Core.Path.{_≡_, refl, sym, ap, _∙_}
+use mathlib.Core.Path.{_≡_, sym, ap, _∙_}
 use mathlib.Core.Bool.{Bool, true, false, cond, _&&_, _||_}
-use mathlib.Core.List.{List, [], _∷_, _++_}
+use mathlib.Core.List.{List, [], _∷_}
 use Prim.Native.Nat.{ℕ, _+_, _-_, _<_, _≤_}
 use native.Mathlib.Omega.{arith}
 use lib.Dec.{leb, ltb, eqb}
-use lib.ListN.{length, getD, take, drop}
+use lib.ListN.{length, getD, drop}
 use Rattle.std.proofs.shelf.Lists.{drop-more, drop-all}
 use Rattle.clock_pairs.specs.declared.Episode.{Episode}
 use Rattle.clock_pairs.specs.declared.ClockPairs.{ClockPairs}
@@ -24,8 +24,14 @@ module _ (m : ClockPairs) (full : length (m .episodes) ≡ 32) (few : m .len ≤
     pub held-step : drop i (held m) ≡ here ∷ after
     held-step = from-place (m .len) (m .episodes) i lt (omega arith)
 
-    pub reached-step : (d : ℕ) → reached (m .a) (m .b) (drop i (held m)) d ≡ (covers (m .a) (m .b) here d || reached (m .a) (m .b) after d)
+    reached-step : (d : ℕ) → reached (m .a) (m .b) (drop i (held m)) d ≡ (covers (m .a) (m .b) here d || reached (m .a) (m .b) after d)
     reached-step d = ap (λ es. reached (m .a) (m .b) es d) held-step
+
+    pub reached-here : (d : ℕ) (t : Bool) → true ≡ covers (m .a) (m .b) here d → reached (m .a) (m .b) (drop i (held m)) d ≡ t → true ≡ t
+    reached-here d t e inv = ap (λ x. x || reached (m .a) (m .b) after d) e ∙ sym (reached-step d) ∙ inv
+
+    pub reached-after : (d : ℕ) (t : Bool) → false ≡ covers (m .a) (m .b) here d → reached (m .a) (m .b) (drop i (held m)) d ≡ t → reached (m .a) (m .b) after d ≡ t
+    reached-after d t e inv = ap (λ x. x || reached (m .a) (m .b) after d) e ∙ sym (reached-step d) ∙ inv
 
     pub apart-step : (low : ℕ) → apart (m .a) (m .b) low (drop i (held m))
         ≡ (leb low (here .fall) && (ltb (here .fall) (here .rise) && (leb (here .rise) (m .b) && apart (m .a) (m .b) (here .rise + (m .b - m .a) + 1) after)))

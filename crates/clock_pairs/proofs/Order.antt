@@ -1,6 +1,6 @@
 -- Episodes with gaps longer than b - a: how few they are, and that they stay so. Assumes nothing.
 use mathlib.Core.Path.{_≡_, refl}
-use mathlib.Core.Bool.{Bool, true, false, cond, _&&_}
+use mathlib.Core.Bool.{Bool, true, false, cond}
 use mathlib.Core.List.{List, [], _∷_}
 use Prim.Native.Nat.{ℕ, zero, suc, _+_, _-_, _*_, _/_, _<_, _≤_, min}
 use native.Mathlib.Nat.{le-div-iff-mul-le, mul-comm, mul-suc, mul-zero}
@@ -8,7 +8,7 @@ use native.Mathlib.Omega.{arith}
 use lib.Dec.{leb, ltb}
 use lib.ListN.{length}
 use Rattle.std.specs.Orderings.{Decides}
-use Rattle.std.proofs.shelf.Tests.{leb-true, le-leb, ltb-true, ltb-false}
+use Rattle.std.proofs.shelf.Tests.{leb-true, le-leb, ltb-true}
 use Rattle.std.proofs.shelf.Ways.{decides-and, decides-like, decides-ltb}
 use Rattle.mitl.specs.Memory.{most-stretches}
 use Rattle.clock_pairs.specs.declared.Episode.{Episode}

@@ -1,13 +1,12 @@
 -- What a memory means after ticks are taken. Assumes nothing.
 use mathlib.Core.Path.{_≡_, refl, sym, ap, _∙_, fun-ext}
 use mathlib.Core.Bool.{Bool, true, false, _&&_, _||_}
-use mathlib.Core.List.{List, [], _∷_}
+use mathlib.Core.List.{List, _∷_}
 use mathlib.Core.Logic.{_⊎_, inl, inr}
 use Prim.Native.Nat.{ℕ, _+_, _-_, _<_, _≤_, min}
 use native.Mathlib.Omega.{arith}
 use Rattle.mitl.specs.Memory.{Meaning, meets, taken, took}
 use Rattle.clock_pairs.specs.declared.Episode.{Episode}
-use Rattle.clock_pairs.specs.declared.ClockPairs.{ClockPairs}
 use Rattle.clock_pairs.specs.Episodes.{served, episode, reached, lasting}
 use Rattle.clock_pairs.specs.Meanings.{meaning-of, told, holding}
 use Rattle.clock_pairs.proofs.Order.{Apart, apart-lasting, apart-new, apart-on}

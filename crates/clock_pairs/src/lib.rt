@@ -213,6 +213,7 @@ impl ClockPairs {
         ensures window { λ r. ⌜ served (r .a) (r .b) ≡ true ⌝ }
         ensures means { λ r. ⌜ meaning-of self ≡ told (r .a) (r .b) (held r) ⌝ }
         ensures counts { λ r. ⌜ counted (meaning-of self) ≡ r .len ⌝ }
+        ensures few { λ r. ⌜ r .len ≤ most-stretches (meaning-of self .a) (meaning-of self .b) ⌝ }
     {
         if self.is_sound() {
             self
@@ -343,7 +344,11 @@ pub impl WindowMemory for ClockPairs as ClockPairsMemory {
         self.settled().forecast(operand)
     }
 
-    fn count(&self) -> u32 {
+    // There are never more stretches than the window can have, and so never more episodes.
+    fn count(&self) -> u32
+        ensures value { λ r. ⌜ r ≡ counted (meaning-of (now (self .entry))) ⌝ }
+        ensures few { λ r. ⌜ r ≤ most-stretches (meaning-of (now (self .entry)) .a) (meaning-of (now (self .entry)) .b) ⌝ }
+    {
         self.settled().len
     }
 }

@@ -3,8 +3,7 @@ use mathlib.Core.Path.{_≡_, sym, ap, ap₂, _∙_}
 use mathlib.Core.Bool.{false}
 use mathlib.Core.Logic.{_⊎_, inl, inr, ⊎-elim}
 use native.Mathlib.Omega.{arith}
-use Rattle.mitl.specs.Memory.{Meaning, took}
-use Rattle.clock_pairs.specs.Meanings.{meaning-of}
+use Rattle.mitl.specs.Memory.{took}
 use Rattle.clock_pairs.proofs.ClockPairs.after.Needs as need
 
 pub returns-then-n-gt0 : need.returns-then-n-gt0

@@ -1,6 +1,6 @@
 -- Ticks at which the operand is no. Assumes nothing.
-use mathlib.Core.Path.{_≡_, ap, _∙_}
-use mathlib.Core.List.{List, []}
+use mathlib.Core.Path.{ap, _∙_}
+use mathlib.Core.List.{[]}
 use native.Mathlib.Omega.{arith}
 use Rattle.clock_pairs.specs.Episodes.{lasting}
 use Rattle.clock_pairs.specs.Meanings.{held, meaning-of}

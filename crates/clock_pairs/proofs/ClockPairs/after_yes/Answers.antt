@@ -1,15 +1,15 @@
 -- Ticks at which the operand is yes. Assumes nothing.
 use borrow.Author.Needs.{needs}
-use mathlib.Core.Path.{_≡_, sym, ap, ap₂, subst, _∙_}
+use mathlib.Core.Path.{_≡_, sym, ap, subst, _∙_}
 use mathlib.Core.Bool.{true, false}
-use mathlib.Core.List.{List, [], _∷_}
-use mathlib.Core.Logic.{_⊎_, inl, inr}
-use Prim.Native.Nat.{ℕ, _+_, _-_, _<_, _≤_, min}
+use mathlib.Core.List.{[], _∷_}
+use mathlib.Core.Logic.{inl, inr}
+use Prim.Native.Nat.{_+_, _-_, _<_, _≤_, min}
 use native.Mathlib.Nat.{zero-add}
 use native.Mathlib.Omega.{arith}
 use lib.Dec.{leb, ltb}
 use lib.ListN.{length, getD, drop}
-use Rattle.std.proofs.shelf.Tests.{and-parts, and-cases, cases-lt, lt-ltb, leb-true, leb-false, ltb-true, ltb-false}
+use Rattle.std.proofs.shelf.Tests.{and-parts, and-cases, cases-lt, leb-true, leb-false, ltb-true, ltb-false}
 use Rattle.mitl.specs.Memory.{took}
 use Rattle.clock_pairs.specs.declared.Episode.{Episode}
 use Rattle.clock_pairs.specs.declared.ClockPairs.{ClockPairs}

@@ -1,7 +1,7 @@
 -- Without its episodes a memory means its window. Assumes nothing.
-use mathlib.Core.Path.{_≡_, sym, ap, _∙_}
+use mathlib.Core.Path.{sym, ap, _∙_}
 use mathlib.Core.List.{[]}
-use Rattle.mitl.specs.Memory.{Meaning, cleared}
+use Rattle.mitl.specs.Memory.{cleared}
 use Rattle.clock_pairs.specs.Meanings.{meaning-of}
 use Rattle.clock_pairs.proofs.Hold.{holding-means}
 use Rattle.clock_pairs.proofs.ClockPairs.emptied.Needs as need

@@ -1,3 +1,4 @@
+-- What is tested from place i on decides the whole test. Assumes nothing.
 use mathlib.Core.Path.{_≡_}
 use lib.ListN.{drop}
 use Rattle.clock_pairs.specs.Episodes.{apart}

@@ -1,3 +1,4 @@
+-- The marks of the episodes from place i on are those of all. Assumes nothing.
 use mathlib.Core.Path.{_≡_}
 use lib.ListN.{drop}
 use Rattle.clock_pairs.specs.Episodes.{reached}

@@ -1,12 +1,11 @@
 -- One more episode. Assumes nothing.
-use mathlib.Core.Path.{_≡_, sym, ap, ap₂, _∙_}
-use mathlib.Core.List.{List}
-use Prim.Native.Nat.{ℕ, _+_, _<_}
+use mathlib.Core.Path.{ap, _∙_}
+use Prim.Native.Nat.{_+_, _<_}
 use native.Mathlib.Omega.{arith}
 use lib.ListN.{length, set}
 use Rattle.clock_pairs.specs.declared.Episode.{Episode}
 use Rattle.clock_pairs.specs.declared.ClockPairs.{ClockPairs}
-use Rattle.clock_pairs.specs.Meanings.{held, holding}
+use Rattle.clock_pairs.specs.Meanings.{held}
 use Rattle.clock_pairs.proofs.Hold.{pushed}
 use Rattle.clock_pairs.proofs.ClockPairs.push.Needs as need
 

@@ -1,7 +1,7 @@
 -- The laws of the kind. Assumes nothing.
-use mathlib.Core.Path.{_≡_, refl, ap}
+use mathlib.Core.Path.{_≡_, refl}
 use mathlib.Core.Bool.{Bool, true, false, cond}
-use mathlib.Core.List.{List, [], _∷_}
+use mathlib.Core.List.{List}
 use Prim.Native.Nat.{ℕ, _≤_}
 use Rattle.mitl.specs.Memory.{new-memory}
 use Rattle.clock_pairs.specs.declared.Episode.{Episode}
