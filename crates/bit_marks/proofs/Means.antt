@@ -1,16 +1,16 @@
 -- What sound marks mean, and what each function makes of that. Assumes nothing.
 use mathlib.Core.Path.{_≡_, refl, sym, ap, ap₂, subst, _∙_, fun-ext}
 use mathlib.Core.Logic.{⊎-elim}
-use mathlib.Core.Bool.{Bool, true, false, not, cond, _&&_, _||_}
+use mathlib.Core.Bool.{Bool, true, false, cond, _&&_, _||_}
 use mathlib.Core.List.{List}
-use Prim.Native.Nat.{ℕ, zero, suc, _+_, _-_, _<_, _≤_}
+use Prim.Native.Nat.{ℕ, suc, _+_, _-_, _<_, _≤_}
 use native.Mathlib.Omega.{arith}
 use lib.Dec.{leb, ltb}
 use Rattle.std.proofs.shelf.Tests.{cond-true, cond-false, cases-bool, and-from, and-parts, and-right, or-from, le-ltb, le-leb, ltb-true, leb-true}
 use Rattle.std.proofs.shelf.Ways.{tells, same-from-decides, decides-like, decides-and, decides-ltb}
 use Rattle.mitl.proofs.Tests.{decides-leb, decides-some}
 use Rattle.mitl.specs.Windows.{sound-window}
-use Rattle.mitl.specs.Memory.{Meaning, clean, new-memory, took, taken, meets, ahead}
+use Rattle.mitl.specs.Memory.{Meaning, new-memory, taken, meets, ahead}
 use Rattle.bit_marks.specs.Marks.{served, marked, ends-by, sound, told, meaning-of}
 use Rattle.bit_marks.specs.declared.BitMarks.{BitMarks}
 use Rattle.bit_marks.proofs.Places.{ends-decided}

@@ -98,7 +98,8 @@ module _ (ws : List ℕ) (b i w m : ℕ) (read : w ≡ getD ws i 0) (fits : m < 
   rest-zero p none = no-bits 64 rest (omega (arith, and-le-l w ((2 ^ 64 - 1) - m))) (λ k h. rest-bit k h ∙ off k)
     where
       off : (k : ℕ) → (marked ws (64 * i + k) && not (ltb (64 * i + k) b)) ≡ false
-      off k = ⊎-elim (λ (l : 64 * i + k < b). and-right (marked ws (64 * i + k)) (not (ltb (64 * i + k) b)) (ap not (lt-ltb (64 * i + k) b l))) (λ (l : b ≤ 64 * i + k). and-left (marked ws (64 * i + k)) (not (ltb (64 * i + k) b)) (none (64 * i + k) l)) (cases-lt (64 * i + k) b)
+      off k = ⊎-elim (λ (l : 64 * i + k < b). and-right (marked ws (64 * i + k)) (not (ltb (64 * i + k) b)) (ap not (lt-ltb (64 * i + k) b l)))
+          (λ (l : b ≤ 64 * i + k). and-left (marked ws (64 * i + k)) (not (ltb (64 * i + k) b)) (none (64 * i + k) l)) (cases-lt (64 * i + k) b)
 
 -- the 64 marks from mark d on, of two neighbouring words
 pub from-place : (ws : List ℕ) (d k : ℕ) → k < 64

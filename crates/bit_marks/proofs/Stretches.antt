@@ -1,8 +1,7 @@
 -- Stretches counted word by word. Assumes nothing.
-use mathlib.Core.Path.{_≡_, refl, sym, ap, ap₂, subst, _∙_}
-use mathlib.Core.Bool.{Bool, true, false, not, cond, _&&_}
-use mathlib.Core.Logic.{_⊎_, inl, inr}
-use Prim.Native.Nat.{ℕ, zero, suc, _+_, _-_, _*_, _/_, _%_, _^_, _<_, _≤_}
+use mathlib.Core.Path.{_≡_, sym, ap, ap₂, _∙_}
+use mathlib.Core.Bool.{Bool, false, not, cond, _&&_}
+use Prim.Native.Nat.{ℕ, zero, suc, _+_, _-_, _/_, _%_, _^_, _<_, _≤_}
 use native.Mathlib.Nat.{pow-suc, add-suc, add-zero}
 use native.Mathlib.Omega.{arith}
 use lib.Dec.{eqb}
@@ -27,7 +26,8 @@ ones-top n x p =
     ∙ ap (λ t. t + ones (x % 2 ^ n)) (one-digit (x / 2 ^ n) top)
 
 -- the next n marks, where x has the bits of those that end a stretch
-pub more-stretches : (mark : ℕ → Bool) (i n x : ℕ) → x < 2 ^ n → ((k : ℕ) → k < n → bit k x ≡ (mark (i + k) && not (mark (i + 1 + k)))) → stretches mark (i + n) ≡ ones x + stretches mark i
+pub more-stretches : (mark : ℕ → Bool) (i n x : ℕ) → x < 2 ^ n
+    → ((k : ℕ) → k < n → bit k x ≡ (mark (i + k) && not (mark (i + 1 + k)))) → stretches mark (i + n) ≡ ones x + stretches mark i
 more-stretches mark i zero x p bits =
     let z : x ≡ 0 = omega arith in
     ap (stretches mark) (add-zero i) ∙ omega (arith, ap ones z ∙ ones-ones 0)

@@ -3,8 +3,8 @@
 //! Mark d is bit d % 64 of word d / 64, and there are words for a thousand marks. Content that this kind never makes,
 //! a window that it does not serve or a bit beyond the marks, means a new memory, and every function behaves so on it.
 ghost use mathlib.Core.Path.{_≡_};
-ghost use mathlib.Core.Bool.{Bool, true, false, cond, _&&_};
-ghost use Prim.Native.Nat.{ℕ, _<_, _≤_};
+ghost use mathlib.Core.Bool.{true, false, cond, _&&_};
+ghost use Prim.Native.Nat.{_<_};
 ghost use lib.Dec.{ltb};
 ghost use Rattle.mitl.specs.Memory.{clean, new-memory, took, ahead, Lasts};
 ghost use Rattle.bit_marks.specs.Marks.{marked, meaning-of, served, sound};

@@ -2,10 +2,10 @@
 use mathlib.Core.Path.{_≡_, refl, sym, _∙_}
 use mathlib.Core.Bool.{Bool, true, false, not, Bool·beq}
 use mathlib.Core.Logic.{⊎-elim}
-use Prim.Native.Nat.{ℕ, _+_, _<_, _≤_}
+use Prim.Native.Nat.{ℕ, _≤_}
 use native.Mathlib.Omega.{arith}
 use borrow.Author.Count.{below-more}
-use Rattle.std.proofs.shelf.Tests.{cases-lt, false≢true, true≢false}
+use Rattle.std.proofs.shelf.Tests.{cases-lt, true≢false}
 use Rattle.mitl.specs.Memory.{ahead}
 use Rattle.bit_marks.specs.Marks.{marked}
 use Rattle.bit_marks.proofs.Means.{past-ahead}

@@ -9,4 +9,6 @@ use Rattle.bit_marks.proofs.words.advanced.Given as given
 
 abbrev pub Inv-loop-at : given.InvT-loop-at
 Inv-loop-at l =
-    (length (l .after) ≡ 16) × ((d : ℕ) → d < 64 * l .at → marked (l .after) d ≡ (marked (l .words) (d + l .n) || (leb (l .first) d && ltb d (l .end)))) × ((i : ℕ) → l .at ≤ i → getD (l .after) i 0 ≡ 0)
+    (length (l .after) ≡ 16)
+    × ((d : ℕ) → d < 64 * l .at → marked (l .after) d ≡ (marked (l .words) (d + l .n) || (leb (l .first) d && ltb d (l .end))))
+    × ((i : ℕ) → l .at ≤ i → getD (l .after) i 0 ≡ 0)

@@ -1,7 +1,7 @@
 -- The marks of a word that end a stretch. Assumes nothing.
-use mathlib.Core.Path.{_≡_, refl, sym, ap, ap₂, _∙_}
+use mathlib.Core.Path.{refl, sym, ap, ap₂, _∙_}
 use mathlib.Core.Bool.{not, _&&_}
-use Prim.Native.Nat.{ℕ, _+_, _-_, _*_}
+use Prim.Native.Nat.{_+_, _-_, _*_}
 use Rattle.mitl.specs.Formulas.{bit}
 use Rattle.bit_marks.proofs.Bits.{and-bit, not-bit}
 use Rattle.bit_marks.proofs.Places.{at-place}

@@ -1,7 +1,7 @@
 -- The 64 marks from a mark on. Assumes nothing.
-use mathlib.Core.Path.{_≡_, ap₂, _∙_}
+use mathlib.Core.Path.{ap₂, _∙_}
 use mathlib.Core.Bool.{cond}
-use Prim.Native.Nat.{ℕ, _+_, _-_, _%_}
+use Prim.Native.Nat.{_+_, _-_, _%_}
 use lib.Dec.{ltb}
 use Rattle.mitl.specs.Formulas.{bit}
 use Rattle.bit_marks.proofs.Places.{from-place}

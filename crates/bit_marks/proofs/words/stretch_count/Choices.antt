@@ -1,6 +1,6 @@
 -- So far the stretches that end in the words looked at. Assumes nothing.
 use mathlib.Core.Path.{_≡_}
-use Prim.Native.Nat.{ℕ, _*_, _≤_}
+use Prim.Native.Nat.{_*_, _≤_}
 use Rattle.mitl.specs.Memory.{stretches}
 use Rattle.bit_marks.specs.Marks.{marked}
 use Rattle.bit_marks.proofs.words.stretch_count.Given as given
