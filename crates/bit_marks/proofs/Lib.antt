@@ -1,0 +1,4 @@
+pub mod Bits
+pub mod Places
+pub mod Stretches
+pub mod Means

@@ -1,0 +1,2 @@
+pub mod Episodes
+pub mod Meanings
