@@ -1,0 +1,3 @@
+pub mod Meant
+pub mod Lengths
+pub mod Ones

@@ -1,0 +1,64 @@
+-- One step over the rows, and how it changes the memories. Assumes nothing.
+use mathlib.Core.Path.{_≡_}
+use mathlib.Core.Bool.{Bool, true, false, not, cond, _&&_, _||_}
+use mathlib.Core.List.{List, map}
+use Prim.Native.Nat.{ℕ, _<_, _≤_}
+use lib.Dec.{ltb}
+use lib.ListN.{getD, length}
+use Rattle.std.specs.declared.option.Option.{Option}
+use Rattle.std.specs.declared.option.Option.the-variants.{Some, None}
+use Rattle.mitl.specs.declared.Row.{Row}
+use Rattle.mitl.specs.declared.Row.the-variants.{Input, Not, And, Or, Once, Always, Since, Rule}
+use Rattle.mitl.specs.Formulas.{bit}
+use Rattle.mitl.specs.Memory.{Meaning, new-memory, ahead}
+
+-- what the memory at place i means; where there is none, a new memory
+abbrev pub meant : {X : Type 0} → (X → Meaning) → List X → ℕ → Meaning
+meant meaning ms i = getD (map meaning ms) i new-memory
+
+-- the reading of the row at place k, no beyond their end
+abbrev pub reading : List Bool → ℕ → Bool
+reading vs k = getD vs k false
+
+-- the reading of a row d ticks ahead, if its operands keep the readings v and its memory means m
+abbrev pub seen : Row → Meaning → (ℕ → Bool) → ℕ → ℕ → Bool
+seen (Input i) m v w d = bit i w
+seen (Not l) m v w d = not (v l)
+seen (And l r) m v w d = v l && v r
+seen (Or l r) m v w d = v l || v r
+seen (Once l a b) m v w d = ahead (m .a) (v l) (m .mark) d
+seen (Always l a b) m v w d = not (ahead (m .a) (not (v l)) (m .mark) d)
+seen (Since l r a b) m v w d = v l && ahead (m .a) (v r) (m .mark) d
+seen (Rule i l) m v w d = v l
+
+-- a row that readings of 64 rows, an input word and a verdict word can serve
+abbrev pub Readable : Row → Type 0
+Readable (Input i) = i < 32
+Readable (Not l) = l < 64
+Readable (And l r) = (l < 64) × (r < 64)
+Readable (Or l r) = (l < 64) × (r < 64)
+Readable (Once l a b) = l < 64
+Readable (Always l a b) = l < 64
+Readable (Since l r a b) = (l < 64) × (r < 64)
+Readable (Rule i l) = (i < 16) × (l < 64)
+
+-- d lies within a length, where none is for ever
+abbrev pub Before : ℕ → Option ℕ → Type 0
+Before d None = Unit {0}
+Before d (Some n) = d < n
+
+-- the shorter of two lengths, where none is for ever
+abbrev pub shorter : Option ℕ → Option ℕ → Option ℕ
+shorter None y = y
+shorter (Some x) None = Some x
+shorter (Some x) (Some y) = Some (cond (ltb x y) x y)
+
+-- a length, and at most n
+abbrev pub capped : Option ℕ → ℕ → ℕ
+capped None n = n
+capped (Some x) n = cond (ltb x n) x n
+
+-- ys is xs but for the memory at place i, which means f of what it meant
+pub record Told {X : Type 0} (meaning : X → Meaning) (f : Meaning → Meaning) (i : ℕ) (xs ys : List X) : Type 0 where
+  pub there : (z : X) → meaning (getD ys i z) ≡ f (meaning (getD xs i z))
+  pub others : (k : ℕ) (z : X) → (k ≡ i → ⊥) → getD ys k z ≡ getD xs k z

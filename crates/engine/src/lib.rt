@@ -1,0 +1,5 @@
+//! One car, any number of ticks.
+mod lasting;
+mod memory;
+mod reading;
+mod word;
