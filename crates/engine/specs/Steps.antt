@@ -11,6 +11,9 @@ use Rattle.mitl.specs.declared.Row.{Row}
 use Rattle.mitl.specs.declared.Row.the-variants.{Input, Not, And, Or, Once, Always, Since, Rule}
 use Rattle.mitl.specs.Formulas.{bit}
 use Rattle.mitl.specs.Memory.{Meaning, new-memory, ahead}
+use Rattle.mitl.specs.Rows.{row-at, timed-before, is-timed, is-rule}
+use Rattle.mitl.specs.Windows.{some-below}
+use Rattle.mitl.specs.Blocks.{advanced}
 
 -- what the memory at place i means; where there is none, a new memory
 abbrev pub meant : {X : Type 0} → (X → Meaning) → List X → ℕ → Meaning
@@ -62,3 +65,20 @@ capped (Some x) n = cond (ltb x n) x n
 pub record Told {X : Type 0} (meaning : X → Meaning) (f : Meaning → Meaning) (i : ℕ) (xs ys : List X) : Type 0 where
   pub there : (z : X) → meaning (getD ys i z) ≡ f (meaning (getD xs i z))
   pub others : (k : ℕ) (z : X) → (k ≡ i → ⊥) → getD ys k z ≡ getD xs k z
+
+-- The first n rows have the readings vs at each tick ahead within this length, if the input word stays w; bit i of
+-- the verdict word is rule i.
+pub record Foreseen {X : Type 0} (meaning : X → Meaning) (rows : List Row) (w : ℕ) (ms : List X) (n : ℕ) (vs : List Bool) (verdict : ℕ) (lasts : Option ℕ) : Type 0 where
+  pub readings : (k : ℕ) → k < n → (d : ℕ) → Before d lasts → seen (row-at rows k) (meant meaning ms (timed-before rows k)) (reading vs) w d ≡ reading vs k
+  pub some : Before 0 lasts
+  pub bits : (i : ℕ) → bit i verdict ≡ some-below (λ k. is-rule i (row-at rows k) && reading vs k) n
+
+-- The memories of the first j rows took n ticks at which the rows have the readings v; the memories past them stay.
+pub record Advanced {X : Type 0} (meaning : X → Meaning) (rows : List Row) (v : ℕ → Bool) (n : ℕ) (j : ℕ) (xs ys : List X) : Type 0 where
+  pub there : (k : ℕ) (z : X) → k < j → is-timed (row-at rows k) ≡ true → meaning (getD ys (timed-before rows k) z) ≡ advanced (row-at rows k) v n (meaning (getD xs (timed-before rows k) z))
+  pub past : (i : ℕ) (z : X) → timed-before rows j ≤ i → getD ys i z ≡ getD xs i z
+
+-- the first n memories mean f of what they meant; those past them stay
+pub record Changed {X : Type 0} (meaning : X → Meaning) (f : Meaning → Meaning) (n : ℕ) (xs ys : List X) : Type 0 where
+  pub there : (i : ℕ) (z : X) → i < n → i < length xs → meaning (getD ys i z) ≡ f (meaning (getD xs i z))
+  pub past : (i : ℕ) (z : X) → n ≤ i → getD ys i z ≡ getD xs i z

@@ -1,4 +1,5 @@
 //! One car, any number of ticks.
+mod advance;
 mod lasting;
 mod memory;
 mod reading;
