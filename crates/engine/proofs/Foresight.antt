@@ -31,7 +31,7 @@ seen-same k u v w m d same (Always l a b) e = ap (λ x. not (ahead (m .a) (not x
 seen-same k u v w m d same (Since l r a b) e = ap₂ (λ x y. x && ahead (m .a) y (m .mark) d) (same l (e .0)) (same r (e .1))
 seen-same k u v w m d same (Rule i l) e = same l e
 
-some-same : (p q : ℕ → Bool) (n : ℕ) → ((k : ℕ) → k < n → p k ≡ q k) → some-below p n ≡ some-below q n
+pub some-same : (p q : ℕ → Bool) (n : ℕ) → ((k : ℕ) → k < n → p k ≡ q k) → some-below p n ≡ some-below q n
 some-same p q zero same = refl
 some-same p q (suc n) same = ap₂ _||_ (same n (omega arith)) (some-same p q n (λ k lt. same k (omega arith)))
 
@@ -41,13 +41,14 @@ module _ {X : Type 0} (meaning : X → Meaning) (rows : List Row) (w : ℕ) (ms 
       → (row : Row) (at : ℕ) → row-at rows k ≡ row → at ≡ timed-before rows k
       → Lasts (seen row (meant meaning ms at) (reading vs) w) v n
       → ((i : ℕ) → bit i verdict′ ≡ ((is-rule i row && v) || bit i verdict))
-      → lasts′ ≡ shorter n lasts
+      → lasts′ ≡ shorter n lasts → verdict′ < 65536
       → Foreseen meaning rows w ms (k + 1) (set vs k v) verdict′ lasts′
-  foreseen-more chained room f row at is place l with-it least = record {
-    readings = λ j lt d b.
+  foreseen-more chained room f row at is place l with-it least fits = record {
+    small = fits;
+    keeps = λ j lt d b.
         let parts = before-shorter d n lasts (subst (Before d) least b) in
         below-more (λ j. seen (row-at rows j) (meant meaning ms (timed-before rows j)) (reading (set vs k v)) w d ≡ reading (set vs k v) j) k
-        (λ j low. same-seen j (omega arith) d (omega arith) ∙ f .readings j low d (parts .1) ∙ sym (kept j low))
+        (λ j low. same-seen j (omega arith) d (omega arith) ∙ f .keeps j low d (parts .1) ∙ sym (kept j low))
         (same-seen k (omega arith) d (omega arith) ∙ ap₂ (λ r i. seen r (meant meaning ms i) (reading vs) w d) is (sym place) ∙ lasts-before _ v n l d (parts .0) ∙ sym here)
         j lt;
     some = subst (Before 0) (sym least) (shorter-before 0 n lasts (lasts-some _ v n l) (f .some));
@@ -79,8 +80,9 @@ module _ {X : Type 0} (meaning : X → Meaning) (rows : List Row) (w : ℕ) (ms 
   -- past the last row there is no rule
   pub foreseen-all : length rows ≤ k → Foreseen meaning rows w ms k vs verdict lasts → Foreseen meaning rows w ms (length rows) vs verdict lasts
   foreseen-all le f = record {
-    readings = λ j lt. f .readings j (omega arith);
+    keeps = λ j lt. f .keeps j (omega arith);
     some = f .some;
+    small = f .small;
     bits = λ i.
         f .bits i
         ∙ some-all (λ j. is-rule i (row-at rows j) && reading vs j) (length rows) k le (λ j low. ap (λ r. is-rule i r && reading vs j) (getD-past rows j (Input 0) low));

@@ -4,3 +4,5 @@ pub mod Ones
 pub mod Plans
 pub mod Foresight
 pub mod Taking
+pub mod Verdicts
+pub mod Holding

@@ -66,12 +66,13 @@ pub record Told {X : Type 0} (meaning : X → Meaning) (f : Meaning → Meaning)
   pub there : (z : X) → meaning (getD ys i z) ≡ f (meaning (getD xs i z))
   pub others : (k : ℕ) (z : X) → (k ≡ i → ⊥) → getD ys k z ≡ getD xs k z
 
--- The first n rows have the readings vs at each tick ahead within this length, if the input word stays w; bit i of
--- the verdict word is rule i.
-pub record Foreseen {X : Type 0} (meaning : X → Meaning) (rows : List Row) (w : ℕ) (ms : List X) (n : ℕ) (vs : List Bool) (verdict : ℕ) (lasts : Option ℕ) : Type 0 where
-  pub readings : (k : ℕ) → k < n → (d : ℕ) → Before d lasts → seen (row-at rows k) (meant meaning ms (timed-before rows k)) (reading vs) w d ≡ reading vs k
-  pub some : Before 0 lasts
-  pub bits : (i : ℕ) → bit i verdict ≡ some-below (λ k. is-rule i (row-at rows k) && reading vs k) n
+-- The first n rows have the readings vs at each tick ahead within the length o, if the input word stays w; bit i of
+-- the verdict word z is rule i.
+pub record Foreseen {X : Type 0} (meaning : X → Meaning) (rows : List Row) (w : ℕ) (ms : List X) (n : ℕ) (vs : List Bool) (z : ℕ) (o : Option ℕ) : Type 0 where
+  pub keeps : (k : ℕ) → k < n → (d : ℕ) → Before d o → seen (row-at rows k) (meant meaning ms (timed-before rows k)) (reading vs) w d ≡ reading vs k
+  pub some : Before 0 o
+  pub small : z < 65536
+  pub bits : (i : ℕ) → bit i z ≡ some-below (λ k. is-rule i (row-at rows k) && reading vs k) n
 
 -- The memories of the first j rows took n ticks at which the rows have the readings v; the memories past them stay.
 pub record Advanced {X : Type 0} (meaning : X → Meaning) (rows : List Row) (v : ℕ → Bool) (n : ℕ) (j : ℕ) (xs ys : List X) : Type 0 where

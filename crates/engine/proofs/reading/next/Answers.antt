@@ -32,7 +32,7 @@ loop-k-again g c =
       foreseen-more (g .M·WindowMemory .meaning) (rows-of p) (c .args .word) (c .args .part .now) k (c .loop-k .readings) (c .loop-k .verdict) (c .loop-k .lasts) (c .settle-yes .result .0) (c .settle-yes .result .1) (c .with-row-verdict .result) (c .shorter-of-lasts .result)
           (λ j low. used-earlier (p .rows) (p .count) (p .few) (p .each) j (omega (arith, c .loop-k-test .taken))) (omega (arith, c .loop-k .inv .1, p .few, c .loop-k-test .taken)) (c .loop-k .inv .2)
           (row-at (p .rows) k) (c .loop-k .at) same (c .loop-k .inv .0)
-          (c .settle-yes .ensures) (c .with-row-verdict .ensures) (c .shorter-of-lasts .ensures),
+          (c .settle-yes .ensures) (c .with-row-verdict .ensures) (c .shorter-of-lasts .ensures) (omega arith),
     )
 
 pub returns : need.returns
