@@ -4,8 +4,11 @@ use mathlib.Core.Bool.{Bool, true, false, not, cond, _&&_, _||_, false≢true}
 use mathlib.Core.List.{List, [], _∷_, _++_, map}
 use Prim.Native.Nat.{ℕ, zero, suc, _+_, _-_, _<_, _≤_}
 use native.Mathlib.Omega.{arith}
+use lib.Dec.{eqb, ltb}
 use lib.ListN.{getD, length, replicate}
+use mathlib.Core.Logic.{inl, inr}
 use Rattle.std.proofs.shelf.Lists.{append-nil, replicate-append-replicate}
+use Rattle.std.proofs.shelf.Tests.{and-parts, and-from, lt-ltb, eq-eqb, eqb-true, cases-eq}
 use Rattle.std.specs.declared.option.Option.{Option}
 use Rattle.mitl.specs.declared.Row.{Row}
 use Rattle.mitl.specs.declared.Row.the-variants.{Input, Not, And, Or, Once, Always, Since, Rule}
@@ -19,7 +22,7 @@ use Rattle.mitl.proofs.Rows.{formulas-at}
 use Rattle.engine.specs.Means.{Means}
 use Rattle.engine.specs.Due.{coming, coming-first}
 use Rattle.engine.specs.Steps.{meant, reading, seen, Before, Foreseen, Advanced}
-use Rattle.engine.specs.Held.{Over, Held}
+use Rattle.engine.specs.Held.{Over, Held, Whole}
 use Rattle.engine.proofs.Meant.{meant-by}
 use Rattle.engine.proofs.Plans.{timed-past}
 use Rattle.engine.proofs.Verdicts.{verdict-is, coming-alike, coming-more, longer}
@@ -94,4 +97,20 @@ module _ {X : Type 0} (meaning : X → Meaning) (rows : List Row) (w z : ℕ) wh
           means = subst (Means meaning rows zs) (longer rows h w n m) (second .means);
           alike = coming-more rows h w n m ∙ ap₂ _++_ (first .alike) (second .alike) ∙ replicate-append-replicate n m z;
         };
+  }
+
+-- a run that does not go on has no tick left, or another verdict word is next
+stopped : (n most x z : ℕ) → false ≡ (ltb n most && eqb x z) → n < most → x ≡ z → ⊥
+stopped n most x z e lt is = false≢true (e ∙ and-from _ _ (lt-ltb n most lt) (eq-eqb x z is))
+
+pub goes-on-alike : (n most x z : ℕ) → true ≡ (ltb n most && eqb x z) → x ≡ z
+goes-on-alike n most x z e = eqb-true x z (and-parts (ltb n most) (eqb x z) (sym e) .1)
+
+module _ {X : Type 0} (meaning : X → Meaning) (rows : List Row) (chained : Chained rows) (proper : (k : ℕ) → k < length rows → Proper (row-at rows k)) (w most : ℕ) (xs ys : List X) (z n : ℕ) (vs : List Bool) (x : ℕ) (o : Option ℕ) where
+  pub whole-run : 0 < most → n ≤ most → (n ≡ 0 → x ≡ z) → Foreseen meaning rows w ys (length rows) vs x o → Held meaning rows w xs ys z n → false ≡ (ltb n most && eqb x z) → Whole meaning rows w most xs ys z n
+  whole-run pos le first f held stop = record {
+    some = elim (cases-eq n 0) [ inl none ↦ absurd (stopped n most x z stop (omega arith) (first none)) | inr some ↦ omega arith ];
+    within = le;
+    held = held;
+    ends = λ h means lt is. stopped n most x z stop lt (sym (foreseen-first meaning rows chained proper w ys vs x o f (h ++ replicate n w) (held .over h means .means)) ∙ is);
   }

@@ -1,7 +1,8 @@
 //! Longest runs of one verdict word.
 ghost use mathlib.Core.Path.{_≡_};
-ghost use mathlib.Core.Bool.{Bool, true, false};
+ghost use mathlib.Core.Bool.{Bool, true, false, _&&_};
 ghost use Prim.Native.Nat.{ℕ, _<_, _≤_};
+ghost use lib.Dec.{eqb, ltb};
 ghost use lib.ListN.{length};
 ghost use Rattle.mitl.specs.Rows.{timed-rows};
 ghost use Rattle.plan.specs.Rows.{rows-of};
@@ -23,4 +24,26 @@ fn hold<M: WindowMemory>(plan: &Plan, word: u32, step: &Step, most: u32, part: &
     let n = capped_at(step.lasts, most);
     advance(plan, &step.readings, n, part);
     n
+}
+
+// Whether a run of n ticks goes on: there are ticks left, and the next has the same verdict word.
+fn goes_on(n: u32, most: u32, next: u16, verdict: u16) -> bool
+    ensures { λ r. ⌜ r ≡ (ltb n most && eqb next verdict) ⌝ }
+{
+    n < most && next == verdict
+}
+
+// Takes the longest run of one verdict word, of at most so many ticks: the word and the ticks.
+pub fn run<M: WindowMemory>(plan: &Plan, word: u32, most: u32, part: &mut [M]) -> (u16, u32)
+    requires { ⌜ (timed-rows (rows-of (now plan)) ≤ length (now part)) × (0 < most) ⌝ }
+    ensures { λ r. ⌜ Whole meaning (rows-of (now (plan .entry))) word most (now (part .entry)) (now (part .exit)) (r .0) (r .1) ⌝ }
+{
+    let mut step = next(plan, word, part);
+    let verdict = step.word;
+    let mut n = 0;
+    while goes_on(n, most, step.word, verdict) {
+        n += hold(plan, word, &step, most - n, part);
+        step = next(plan, word, part);
+    }
+    (verdict, n)
 }
