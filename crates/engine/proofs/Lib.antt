@@ -6,3 +6,5 @@ pub mod Foresight
 pub mod Taking
 pub mod Verdicts
 pub mod Holding
+pub mod Noting
+pub mod Clearing

@@ -1,8 +1,8 @@
 -- What a record leaves: its notes and what the memories mean. Assumes nothing.
 use mathlib.Core.Path.{_≡_}
-use mathlib.Core.Bool.{Bool, _||_}
+use mathlib.Core.Bool.{Bool, true, false, _||_}
 use mathlib.Core.List.{List, _++_, map}
-use Prim.Native.Nat.{ℕ, _≤_}
+use Prim.Native.Nat.{ℕ, _<_, _≤_}
 use lib.Dec.{eqb, ltb}
 use lib.ListN.{drop, getD, length, replicate}
 use Rattle.mitl.specs.declared.Row.{Row}
@@ -25,14 +25,23 @@ pub record Judged {X : Type 0} (meaning : X → Meaning) (rows : List Row) (h : 
   pub covers : reply .ticks ≡ covered rows h n w (length ns)
   pub means : Means meaning rows ms′ (h ++ replicate (covered rows h n w (length ns)) w)
 
--- For any memories at all: the part and the places keep their lengths, the memories past those of the timed rows and
--- the places past the notes written stay.
-pub record Bounded {X : Type 0} (rows : List Row) (ms : List X) (ns : List Note) (ms′ : List X) (ns′ : List Note) (reply : Fed) : Type 0 where
-  pub part-length : length ms′ ≡ length ms
-  pub places-length : length ns′ ≡ length ns
-  pub past : (i : ℕ) (m : X) → timed-rows rows ≤ i → getD ms′ i m ≡ getD ms i m
-  pub rest : drop (reply .notes) ns′ ≡ drop (reply .notes) ns
-
 -- no place for a note, or fewer memories than timed rows
 abbrev pub idle : {X : Type 0} → List Row → List X → List Note → Bool
 idle rows ms ns = eqb (length ns) 0 || ltb (length ms) (timed-rows rows)
+
+-- nothing is written and nothing taken
+pub record Unfed {X : Type 0} (ms : List X) (ns : List Note) (ms′ : List X) (ns′ : List Note) (reply : Fed) : Type 0 where
+  pub none : reply ≡ record { notes = 0; ticks = 0 }
+  pub same-part : ms′ ≡ ms
+  pub same-notes : ns′ ≡ ns
+
+-- For any memories at all: the part and the places keep their lengths, the memories past those of the timed rows and
+-- the places past the notes written stay, and unless it is idle some of the n ticks are taken.
+pub record Bounded {X : Type 0} (rows : List Row) (n : ℕ) (ms : List X) (ns : List Note) (ms′ : List X) (ns′ : List Note) (reply : Fed) : Type 0 where
+  pub part-length : length ms′ ≡ length ms
+  pub places : length ns′ ≡ length ns
+  pub past : (i : ℕ) (m : X) → timed-rows rows ≤ i → getD ms′ i m ≡ getD ms i m
+  pub rest : drop (reply .notes) ns′ ≡ drop (reply .notes) ns
+  pub few : reply .notes ≤ length ns
+  pub within : reply .ticks ≤ n
+  pub some : idle rows ms ns ≡ false → 0 < n → 0 < reply .ticks

@@ -2,6 +2,7 @@
 ghost use mathlib.Core.Path.{_≡_};
 ghost use mathlib.Core.Bool.{Bool, true, false, not, cond, _&&_};
 ghost use Prim.Native.Nat.{ℕ, _<_};
+ghost use lib.Dec.{ltb};
 ghost use Rattle.engine.specs.Steps.{shorter, capped};
 
 // The shorter of two lengths.
@@ -31,4 +32,10 @@ pub fn turned(run: (bool, Option<u32>)) -> (bool, Option<u32>)
 {
     let (verdict, lasts) = run;
     (!verdict, lasts)
+}
+
+pub fn lesser(x: usize, y: usize) -> usize
+    ensures { λ r. ⌜ r ≡ cond (ltb x y) x y ⌝ }
+{
+    if x < y { x } else { y }
 }
