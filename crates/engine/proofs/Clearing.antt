@@ -11,8 +11,7 @@ use Rattle.std.proofs.shelf.Ways.{tells}
 use Rattle.mitl.specs.declared.Row.{Row}
 use Rattle.mitl.specs.Memory.{Meaning, cleared}
 use Rattle.mitl.specs.Rows.{timed-rows, timed-before}
-use Rattle.engine.specs.Means.{Means}
-use Rattle.engine.specs.Steps.{Changed}
+use Rattle.engine.specs.Means.{Means, Changed}
 use Rattle.engine.proofs.Plans.{timed-past}
 
 module _ {X : Type 0} (meaning : X → Meaning) (f : Meaning → Meaning) (n end : ℕ) (xs ys : List X) where

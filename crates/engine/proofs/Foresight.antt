@@ -1,6 +1,6 @@
 -- The readings ahead, one row after another. Assumes nothing.
 use mathlib.Core.Path.{_≡_, refl, sym, ap, ap₂, subst, fun-ext, _∙_}
-use mathlib.Core.Bool.{Bool, true, false, not, cond, _&&_, _||_}
+use mathlib.Core.Bool.{Bool, true, false, not, cond, _&&_, _||_, false≢true}
 use mathlib.Core.List.{List}
 use mathlib.Core.Logic.{inl, inr}
 use Prim.Native.Nat.{ℕ, zero, suc, _+_, _<_, _≤_}
@@ -17,8 +17,8 @@ use Rattle.mitl.specs.Formulas.{bit}
 use Rattle.mitl.specs.Memory.{Meaning, ahead, Lasts}
 use Rattle.mitl.specs.Rows.{Earlier, row-at, timed-before, is-rule}
 use Rattle.mitl.specs.Windows.{some-below}
-use Rattle.engine.specs.Steps.{meant, reading, seen, Before, shorter, Foreseen}
-use Rattle.engine.proofs.Lengths.{lasts-before, lasts-some, before-shorter, shorter-before}
+use Rattle.engine.specs.Steps.{meant, reading, seen, Before, At-end, Turns, shorter, Foreseen}
+use Rattle.engine.proofs.Lengths.{lasts-before, lasts-some, before-shorter, shorter-before, end-lasts, end-shorter, end-map}
 
 -- a row looks only at the readings of earlier rows
 seen-same : (k : ℕ) (u v : ℕ → Bool) (w : ℕ) (m : Meaning) (d : ℕ) → ((j : ℕ) → j < k → u j ≡ v j) → (r : Row) → Earlier k r → seen r m u w d ≡ seen r m v w d
@@ -45,6 +45,7 @@ module _ {X : Type 0} (meaning : X → Meaning) (rows : List Row) (w : ℕ) (ms 
       → Foreseen meaning rows w ms (k + 1) (set vs k v) verdict′ lasts′
   foreseen-more chained room f row at is place l with-it least fits = record {
     small = fits;
+    change = subst (At-end _) (sym least) (end-shorter _ n lasts (end-lasts _ v n l (λ d e. (k, omega arith, same-seen k (omega arith) d (omega arith) ∙ ap₂ (λ r i. seen r (meant meaning ms i) (reading vs) w d) is (sym place) ∙ e ∙ ap not (sym here)))) (end-map (Turns meaning rows w ms k vs) _ lasts (λ d c. (c .0, omega (arith, c .1), same-seen (c .0) (omega (arith, c .1)) d (omega (arith, c .1)) ∙ c .2 ∙ ap not (sym (kept (c .0) (c .1))))) (f .change)));
     keeps = λ j lt d b.
         let parts = before-shorter d n lasts (subst (Before d) least b) in
         below-more (λ j. seen (row-at rows j) (meant meaning ms (timed-before rows j)) (reading (set vs k v)) w d ≡ reading (set vs k v) j) k
@@ -68,6 +69,10 @@ module _ {X : Type 0} (meaning : X → Meaning) (rows : List Row) (w : ℕ) (ms 
           → seen (row-at rows j) (meant meaning ms (timed-before rows j)) (reading (set vs k v)) w d ≡ seen (row-at rows j) (meant meaning ms (timed-before rows j)) (reading vs) w d
       same-seen j lt d le = seen-same j _ _ w _ d (λ i low. kept i (omega arith)) (row-at rows j) (chained j lt)
 
+turned-round : (b : Bool) → b ≡ not b → ⊥
+turned-round true e = false≢true (sym e)
+turned-round false e = false≢true e
+
 some-all : (p : ℕ → Bool) (n m : ℕ) → n ≤ m → ((k : ℕ) → n ≤ k → p k ≡ false) → some-below p m ≡ some-below p n
 some-all p n zero le off = let e : 0 ≡ n = omega arith in ap (some-below p) e
 some-all p n (suc m) le off =
@@ -83,7 +88,20 @@ module _ {X : Type 0} (meaning : X → Meaning) (rows : List Row) (w : ℕ) (ms 
     keeps = λ j lt. f .keeps j (omega arith);
     some = f .some;
     small = f .small;
+    change = end-map (Turns meaning rows w ms k vs) _ lasts
+        (λ d c.
+        elim (cases-lt (c .0) (length rows)) [
+          | inl less ↦ (c .0, less, c .2)
+          | inr past ↦ absurd (turned-round (reading vs (c .0)) (sym (f .keeps (c .0) (c .1) 0 (f .some)) ∙ steady (c .0) past 0 d ∙ c .2))
+        ])
+        (f .change);
     bits = λ i.
         f .bits i
         ∙ some-all (λ j. is-rule i (row-at rows j) && reading vs j) (length rows) k le (λ j low. ap (λ r. is-rule i r && reading vs j) (getD-past rows j (Input 0) low));
   }
+    where
+      -- a place past the last row has the reading of an input
+      steady : (j : ℕ) → length rows ≤ j → (d e : ℕ) → seen (row-at rows j) (meant meaning ms (timed-before rows j)) (reading vs) w d ≡ seen (row-at rows j) (meant meaning ms (timed-before rows j)) (reading vs) w e
+      steady j past d e =
+          ap (λ r. seen r (meant meaning ms (timed-before rows j)) (reading vs) w d) (getD-past rows j (Input 0) past)
+          ∙ sym (ap (λ r. seen r (meant meaning ms (timed-before rows j)) (reading vs) w e) (getD-past rows j (Input 0) past))

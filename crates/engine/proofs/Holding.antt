@@ -20,9 +20,9 @@ use Rattle.mitl.specs.Blocks.{row-ahead, advanced, Proper}
 use Rattle.mitl.proofs.Blocks.{block-readings, looked-after}
 use Rattle.mitl.proofs.Rows.{formulas-at}
 use Rattle.engine.specs.Means.{Means}
-use Rattle.engine.specs.Due.{coming, coming-first}
+use Rattle.engine.specs.Due.{coming}
 use Rattle.engine.specs.Steps.{meant, reading, seen, Before, Foreseen, Advanced}
-use Rattle.engine.specs.Held.{Over, Held, Whole}
+use Rattle.engine.specs.Held.{Over, Held, Whole, coming-first}
 use Rattle.engine.proofs.Meant.{meant-by}
 use Rattle.engine.proofs.Plans.{timed-past}
 use Rattle.engine.proofs.Verdicts.{verdict-is, coming-alike, coming-more, longer}

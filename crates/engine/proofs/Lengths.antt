@@ -9,7 +9,7 @@ use Rattle.std.proofs.shelf.Tests.{cond-both, ltb-true, ltb-false}
 use Rattle.std.specs.declared.option.Option.{Option}
 use Rattle.std.specs.declared.option.Option.the-variants.{Some, None}
 use Rattle.mitl.specs.Memory.{Lasts}
-use Rattle.engine.specs.Steps.{Before, shorter, capped}
+use Rattle.engine.specs.Steps.{Before, At-end, shorter, capped}
 
 pub lasts-turned : (f : ℕ → Bool) (r : Bool) (o : Option ℕ) → Lasts f r o → Lasts (λ d. not (f d)) (not r) o
 lasts-turned f r None l = λ d. ap not (l d)
@@ -51,3 +51,16 @@ capped-most (Some x) n = cond-both (ltb x n) x n (λ m. m ≤ n) (λ e. let lt =
 pub capped-before : (o : Option ℕ) (n d : ℕ) → d < capped o n → Before d o
 capped-before None n d lt = tt
 capped-before (Some x) n d lt = cond-both (ltb x n) x n (λ m. d < m → d < x) (λ e l. l) (λ e l. let le = ltb-false x n e in omega arith) lt
+
+pub end-lasts : (f : ℕ → Bool) (r : Bool) (o : Option ℕ) → Lasts f r o → {P : ℕ → Type 0} → ((d : ℕ) → f d ≡ not r → P d) → At-end P o
+end-lasts f r None l p = tt
+end-lasts f r (Some n) l p = p n (l .2)
+
+pub end-shorter : (P : ℕ → Type 0) (x y : Option ℕ) → At-end P x → At-end P y → At-end P (shorter x y)
+end-shorter P None y e e′ = e′
+end-shorter P (Some x) None e e′ = e
+end-shorter P (Some x) (Some y) e e′ = cond-both (ltb x y) x y P (λ _. e) (λ _. e′)
+
+pub end-map : (P Q : ℕ → Type 0) (o : Option ℕ) → ((d : ℕ) → P d → Q d) → At-end P o → At-end Q o
+end-map P Q None f e = tt
+end-map P Q (Some n) f e = f n e

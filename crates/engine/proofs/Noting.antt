@@ -19,8 +19,8 @@ use Rattle.mitl.specs.Runs.{Run, expanded, Longest, runs, ticks}
 use Rattle.mitl.proofs.Runs.{Ends-off, longest-push, expanded-push, length-expanded, written-all, written-full}
 use Rattle.engine.specs.declared.Fed.{Fed}
 use Rattle.engine.specs.Means.{Means}
-use Rattle.engine.specs.Due.{coming, coming-first, due, covered}
-use Rattle.engine.specs.Held.{Held, Whole}
+use Rattle.engine.specs.Due.{coming, due, covered}
+use Rattle.engine.specs.Held.{coming-first, Held, Whole}
 use Rattle.engine.specs.Judged.{note, Judged, idle}
 use Rattle.engine.proofs.Verdicts.{coming-more, coming-at-once, coming-length, longer}
 

@@ -16,7 +16,8 @@ use Rattle.mitl.specs.Rows.{row-at, formula-at, formulas, read, is-rule, rule, 
 use Rattle.mitl.specs.Windows.{some-below}
 use Rattle.mitl.proofs.Causal.{sat-append}
 use Rattle.mitl.proofs.Words.{bit-word, word-lt}
-use Rattle.engine.specs.Due.{coming, coming-first}
+use Rattle.engine.specs.Due.{coming}
+use Rattle.engine.specs.Held.{coming-first}
 use Rattle.engine.proofs.Foresight.{some-same}
 use Rattle.engine.proofs.Ones.{same-bits}
 

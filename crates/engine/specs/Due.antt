@@ -1,5 +1,5 @@
 -- The runs of verdict words that are due for ticks with one input word. Assumes nothing.
-use mathlib.Core.List.{List, [], _∷_, _++_, map}
+use mathlib.Core.List.{List, _++_, map}
 use Prim.Native.Nat.{ℕ}
 use lib.ListN.{length, replicate, take}
 use Rattle.std.specs.Iters.{counting}
@@ -10,10 +10,6 @@ use Rattle.mitl.specs.Runs.{Run, runs, ticks}
 -- the verdict words of n ticks after the history h, all with the input word w
 abbrev pub coming : List Row → List ℕ → ℕ → ℕ → List ℕ
 coming rows h n w = map (verdict rows (h ++ replicate n w)) (counting (length h) n)
-
--- the verdict word of the next tick after h, with the input word w
-abbrev pub coming-first : List Row → List ℕ → ℕ → ℕ
-coming-first rows h w = verdict rows (h ++ (w ∷ [])) (length h)
 
 -- as many of their first longest runs as there are places
 abbrev pub due : List Row → List ℕ → ℕ → ℕ → ℕ → List Run

@@ -1,13 +1,17 @@
 -- Ticks taken under one verdict word. Assumes nothing.
 use mathlib.Core.Path.{_≡_}
-use mathlib.Core.List.{List, _++_}
+use mathlib.Core.List.{List, [], _∷_, _++_}
 use Prim.Native.Nat.{ℕ, _<_, _≤_}
-use lib.ListN.{getD, replicate}
+use lib.ListN.{getD, length, replicate}
 use Rattle.mitl.specs.declared.Row.{Row}
 use Rattle.mitl.specs.Memory.{Meaning}
-use Rattle.mitl.specs.Rows.{timed-rows}
+use Rattle.mitl.specs.Rows.{timed-rows, verdict}
 use Rattle.engine.specs.Means.{Means}
-use Rattle.engine.specs.Due.{coming, coming-first}
+use Rattle.engine.specs.Due.{coming}
+
+-- the verdict word of the next tick after h, with the input word w
+abbrev pub coming-first : List Row → List ℕ → ℕ → ℕ
+coming-first rows h w = verdict rows (h ++ (w ∷ [])) (length h)
 
 -- over the history h: n ticks with the input word w, all with the verdict word z, are taken
 pub record Over {X : Type 0} (meaning : X → Meaning) (rows : List Row) (w : ℕ) (ys : List X) (z n : ℕ) (h : List ℕ) : Type 0 where

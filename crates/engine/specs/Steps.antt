@@ -61,15 +61,25 @@ abbrev pub capped : Option ℕ → ℕ → ℕ
 capped None n = n
 capped (Some x) n = cond (ltb x n) x n
 
+-- P holds at the end of a length that is not for ever
+abbrev pub At-end : (ℕ → Type 0) → Option ℕ → Type 0
+At-end P None = Unit {0}
+At-end P (Some n) = P n
+
 -- ys is xs but for the memory at place i, which means f of what it meant
 pub record Told {X : Type 0} (meaning : X → Meaning) (f : Meaning → Meaning) (i : ℕ) (xs ys : List X) : Type 0 where
   pub there : (z : X) → meaning (getD ys i z) ≡ f (meaning (getD xs i z))
   pub others : (k : ℕ) (z : X) → (k ≡ i → ⊥) → getD ys k z ≡ getD xs k z
 
--- The first n rows have the readings vs at each tick ahead within the length o, if the input word stays w; bit i of
--- the verdict word z is rule i.
+-- one of the first n rows has another reading d ticks ahead than in vs
+abbrev pub Turns : {X : Type 0} → (X → Meaning) → List Row → ℕ → List X → ℕ → List Bool → ℕ → Type 0
+Turns meaning rows w ms n vs d = (k : ℕ) × (k < n) × (seen (row-at rows k) (meant meaning ms (timed-before rows k)) (reading vs) w d ≡ not (reading vs k))
+
+-- The first n rows have the readings vs at each tick ahead within the length o, if the input word stays w, and at its
+-- end one of them changes; bit i of the verdict word z is rule i.
 pub record Foreseen {X : Type 0} (meaning : X → Meaning) (rows : List Row) (w : ℕ) (ms : List X) (n : ℕ) (vs : List Bool) (z : ℕ) (o : Option ℕ) : Type 0 where
   pub keeps : (k : ℕ) → k < n → (d : ℕ) → Before d o → seen (row-at rows k) (meant meaning ms (timed-before rows k)) (reading vs) w d ≡ reading vs k
+  pub change : At-end (Turns meaning rows w ms n vs) o
   pub some : Before 0 o
   pub small : z < 65536
   pub bits : (i : ℕ) → bit i z ≡ some-below (λ k. is-rule i (row-at rows k) && reading vs k) n
@@ -78,8 +88,3 @@ pub record Foreseen {X : Type 0} (meaning : X → Meaning) (rows : List Row) (w 
 pub record Advanced {X : Type 0} (meaning : X → Meaning) (rows : List Row) (v : ℕ → Bool) (n : ℕ) (j : ℕ) (xs ys : List X) : Type 0 where
   pub there : (k : ℕ) (z : X) → k < j → is-timed (row-at rows k) ≡ true → meaning (getD ys (timed-before rows k) z) ≡ advanced (row-at rows k) v n (meaning (getD xs (timed-before rows k) z))
   pub past : (i : ℕ) (z : X) → timed-before rows j ≤ i → getD ys i z ≡ getD xs i z
-
--- the first n memories mean f of what they meant; those past them stay
-pub record Changed {X : Type 0} (meaning : X → Meaning) (f : Meaning → Meaning) (n : ℕ) (xs ys : List X) : Type 0 where
-  pub there : (i : ℕ) (z : X) → i < n → i < length xs → meaning (getD ys i z) ≡ f (meaning (getD xs i z))
-  pub past : (i : ℕ) (z : X) → n ≤ i → getD ys i z ≡ getD xs i z

@@ -8,8 +8,7 @@ ghost use Rattle.mitl.specs.Memory.{cleared};
 ghost use Rattle.mitl.specs.Rows.{timed-rows};
 ghost use Rattle.plan.specs.Rows.{rows-of};
 ghost use Rattle.engine.specs.Judged.{Bounded, Judged, Unfed, idle};
-ghost use Rattle.engine.specs.Means.{Means};
-ghost use Rattle.engine.specs.Steps.{Changed};
+ghost use Rattle.engine.specs.Means.{Changed, Means};
 
 mod advance;
 mod feeding;

@@ -2,7 +2,7 @@ use mathlib.Core.Path.{_≡_, subst}
 use Rattle.mitl.specs.Memory.{cleared}
 use Rattle.mitl.specs.Rows.{timed-rows}
 use Rattle.plan.specs.Rows.{rows-of}
-use Rattle.engine.specs.Steps.{Changed}
+use Rattle.engine.specs.Means.{Changed}
 use Rattle.engine.proofs.Clearing.{changed-all, cleared-means}
 use Rattle.engine.proofs.clear.Needs as need
 

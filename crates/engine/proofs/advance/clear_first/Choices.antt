@@ -1,5 +1,5 @@
 use Rattle.mitl.specs.Memory.{cleared}
-use Rattle.engine.specs.Steps.{Changed}
+use Rattle.engine.specs.Means.{Changed}
 use Rattle.engine.proofs.advance.clear_first.Given as given
 
 abbrev pub Inv-loop-i : given.InvT-loop-i
