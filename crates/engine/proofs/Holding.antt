@@ -4,11 +4,10 @@ use mathlib.Core.Bool.{Bool, true, false, not, cond, _&&_, _||_, false≢true}
 use mathlib.Core.List.{List, [], _∷_, _++_, map}
 use Prim.Native.Nat.{ℕ, zero, suc, _+_, _-_, _<_, _≤_}
 use native.Mathlib.Omega.{arith}
-use lib.Dec.{eqb, ltb}
+use lib.Dec.{eqb}
 use lib.ListN.{getD, length, replicate}
-use mathlib.Core.Logic.{inl, inr}
 use Rattle.std.proofs.shelf.Lists.{append-nil, replicate-append-replicate}
-use Rattle.std.proofs.shelf.Tests.{and-parts, and-from, lt-ltb, eq-eqb, eqb-true, cases-eq}
+use Rattle.std.proofs.shelf.Tests.{eqb-false}
 use Rattle.std.specs.declared.option.Option.{Option}
 use Rattle.mitl.specs.declared.Row.{Row}
 use Rattle.mitl.specs.declared.Row.the-variants.{Input, Not, And, Or, Once, Always, Since, Rule}
@@ -87,30 +86,34 @@ module _ {X : Type 0} (meaning : X → Meaning) (rows : List Row) (w z : ℕ) wh
     over = λ h means. record { means = subst (Means meaning rows xs) (sym (append-nil h)) means; alike = refl };
   }
 
-  pub held-more : (xs ys zs : List X) (n m : ℕ) → Held meaning rows w xs ys z n → Held meaning rows w ys zs z m → Held meaning rows w xs zs z (n + m)
-  held-more xs ys zs n m a b = record {
-    past = λ i x le. b .past i x le ∙ a .past i x le;
+  pub held-more : (xs ys zs : List X) (n m x : ℕ) → Held meaning rows w xs ys z n → x ≡ z → Held meaning rows w ys zs x m → Held meaning rows w xs zs z (n + m)
+  held-more xs ys zs n m x a is b = record {
+    past = λ i y le. b .past i y le ∙ a .past i y le;
     over = λ h means.
         let first = a .over h means in
         let second = b .over (h ++ replicate n w) (first .means) in
         record {
           means = subst (Means meaning rows zs) (longer rows h w n m) (second .means);
-          alike = coming-more rows h w n m ∙ ap₂ _++_ (first .alike) (second .alike) ∙ replicate-append-replicate n m z;
+          alike = coming-more rows h w n m ∙ ap₂ _++_ (first .alike) (second .alike ∙ ap (replicate m) is) ∙ replicate-append-replicate n m z;
         };
   }
 
--- a run that does not go on has no tick left, or another verdict word is next
-stopped : (n most x z : ℕ) → false ≡ (ltb n most && eqb x z) → n < most → x ≡ z → ⊥
-stopped n most x z e lt is = false≢true (e ∙ and-from _ _ (lt-ltb n most lt) (eq-eqb x z is))
+-- n ticks under the verdict word z, and m more under x, which is z
+module _ {X : Type 0} (meaning : X → Meaning) (rows : List Row) (w most : ℕ) (xs ys zs : List X) (z n x m : ℕ)
+    (a : Held meaning rows w xs ys z n) (same : x ≡ z) (b : Held meaning rows w ys zs x m) (pos : 0 < m) (le : n + m ≤ most) where
+  -- no tick is left
+  pub whole-all : most ≤ n + m → Whole meaning rows w most xs zs z (n + m)
+  whole-all all = record { some = omega arith; within = le; held = held-more meaning rows w z xs ys zs n m x a same b; ends = λ h means lt is. absurd (omega arith) }
 
-pub goes-on-alike : (n most x z : ℕ) → true ≡ (ltb n most && eqb x z) → x ≡ z
-goes-on-alike n most x z e = eqb-true x z (and-parts (ltb n most) (eqb x z) (sym e) .1)
-
-module _ {X : Type 0} (meaning : X → Meaning) (rows : List Row) (chained : Chained rows) (proper : (k : ℕ) → k < length rows → Proper (row-at rows k)) (w most : ℕ) (xs ys : List X) (z n : ℕ) (vs : List Bool) (x : ℕ) (o : Option ℕ) where
-  pub whole-run : 0 < most → n ≤ most → (n ≡ 0 → x ≡ z) → Foreseen meaning rows w ys (length rows) vs x o → Held meaning rows w xs ys z n → false ≡ (ltb n most && eqb x z) → Whole meaning rows w most xs ys z n
-  whole-run pos le first f held stop = record {
-    some = elim (cases-eq n 0) [ inl none ↦ absurd (stopped n most x z stop (omega arith) (first none)) | inr some ↦ omega arith ];
-    within = le;
-    held = held;
-    ends = λ h means lt is. stopped n most x z stop lt (sym (foreseen-first meaning rows chained proper w ys vs x o f (h ++ replicate n w) (held .over h means .means)) ∙ is);
-  }
+  -- another verdict word is next
+  pub whole-ended : Chained rows → ((k : ℕ) → k < length rows → Proper (row-at rows k)) → (vs : List Bool) (y : ℕ) (o : Option ℕ)
+      → Foreseen meaning rows w zs (length rows) vs y o → false ≡ eqb y z → Whole meaning rows w most xs zs z (n + m)
+  whole-ended chained proper vs y o f other =
+      let held = held-more meaning rows w z xs ys zs n m x a same b in
+      record {
+        some = omega arith;
+        within = le;
+        held = held;
+        ends = λ h means lt is.
+            eqb-false y z (sym other) (sym (foreseen-first meaning rows chained proper w zs vs y o f (h ++ replicate (n + m) w) (held .over h means .means)) ∙ is);
+      }

@@ -82,7 +82,7 @@ module _ {X : Type 0} (meaning : X → Meaning) (rows : List Row) (c : Car) (w a
       → Judged meaning rows h c w all ms ns ms′ ns′ (record { notes = used; ticks = done })
   judged-all ms′ ns′ used left done long few rest sum stop h a = record {
     written = sym (take-append-drop used ns′) ∙ ap₂ _++_ (a .noted ∙ ap (map (note c)) (sym is)) (rest ∙ ap (λ k. drop k ns) (sym size ∙ ap length (sym is)));
-    count = sym size ∙ ap length (sym is);
+    as-many = sym size ∙ ap length (sym is);
     covers = full;
     means = subst (λ k. Means meaning rows ms′ (h ++ replicate k w)) full (a .means);
   }
@@ -116,24 +116,39 @@ module _ {X : Type 0} (meaning : X → Meaning) (rows : List Row) (c : Car) (w a
       full : done ≡ covered rows h all w (length ns)
       full = sym (coming-length rows h w done) ∙ ap length (a .cut) ∙ length-expanded (a .written) ∙ ap ticks (sym is)
 
-  -- where nothing can be written nothing is due
-  pub judged-idle : idle rows ms ns ≡ true → (h : List ℕ) → Means meaning rows ms h → Judged meaning rows h c w all ms ns ms ns (record { notes = 0; ticks = 0 })
-  judged-idle e h means =
-      elim (or-cases (eqb (length ns) 0) (ltb (length ms) (timed-rows rows)) e) [
-        | inl none ↦ places ns (eqb-true (length ns) 0 none)
-        | inr short ↦ absurd (let lt = ltb-true (length ms) (timed-rows rows) short in omega (arith, means .enough))
+-- where nothing can be written nothing is due
+module _ {X : Type 0} (meaning : X → Meaning) (rows : List Row) (c : Car) (w : ℕ) (ms : List X) (h : List ℕ) (means : Means meaning rows ms h) where
+  nothing : (n : ℕ) (ns : List Note) → due rows h n w (length ns) ≡ [] → Judged meaning rows h c w n ms ns ms ns (record { notes = 0; ticks = 0 })
+  nothing n ns none = record {
+    written = sym (ap (λ rs. map (note c) rs ++ drop (length rs) ns) none);
+    as-many = sym (ap length none);
+    covers = sym (ap ticks none);
+    means = subst (Means meaning rows ms) (sym (append-nil h) ∙ ap (λ rs. h ++ replicate (ticks rs) w) (sym none)) means;
+  }
+
+  pub judged-idle : (n : ℕ) (ns : List Note) → true ≡ idle rows n ms ns → Judged meaning rows h c w n ms ns ms ns (record { notes = 0; ticks = 0 })
+  judged-idle n ns e =
+      elim (or-cases (eqb n 0) (eqb (length ns) 0 || ltb (length ms) (timed-rows rows)) (sym e)) [
+        | inl none ↦ nothing n ns (ap (λ k. due rows h k w (length ns)) (eqb-true n 0 none) ∙ take-nil (length ns))
+        | inr more ↦
+            elim (or-cases (eqb (length ns) 0) (ltb (length ms) (timed-rows rows)) more) [
+              | inl none ↦ nothing n ns (ap (λ k. due rows h n w k) (eqb-true (length ns) 0 none))
+              | inr short ↦ absurd (let lt = ltb-true (length ms) (timed-rows rows) short in omega (arith, means .enough))
+            ]
       ]
     where
-      places : (xs : List Note) → length xs ≡ 0 → Judged meaning rows h c w all ms xs ms xs (record { notes = 0; ticks = 0 })
-      places [] z = record { written = refl; count = refl; covers = refl; means = subst (Means meaning rows ms) (sym (append-nil h)) means }
-      places (x ∷ xs) z = absurd (omega arith)
+      take-nil : (k : ℕ) → take k (runs []) ≡ []
+      take-nil zero = refl
+      take-nil (suc k) = refl
 
--- not idle: there is a place, and a memory for each timed row
-pub idle-not : {X : Type 0} (rows : List Row) (ms : List X) (ns : List Note) → idle rows ms ns ≡ false → (0 < length ns) × (timed-rows rows ≤ length ms)
-idle-not rows ms ns e =
-    let parts = or-parts (eqb (length ns) 0) (ltb (length ms) (timed-rows rows)) e in
-    let some = eqb-false (length ns) 0 (parts .0) in
-    (omega arith, ltb-false (length ms) (timed-rows rows) (parts .1))
+-- not idle: there is a tick, a place, and a memory for each timed row
+pub idle-not : {X : Type 0} (rows : List Row) (n : ℕ) (ms : List X) (ns : List Note) → idle rows n ms ns ≡ false → (0 < n) × (0 < length ns) × (timed-rows rows ≤ length ms)
+idle-not rows n ms ns e =
+    let first = or-parts (eqb n 0) (eqb (length ns) 0 || ltb (length ms) (timed-rows rows)) e in
+    let second = or-parts (eqb (length ns) 0) (ltb (length ms) (timed-rows rows)) (first .1) in
+    let ticks = eqb-false n 0 (first .0) in
+    let places = eqb-false (length ns) 0 (second .0) in
+    (omega arith, omega arith, ltb-false (length ms) (timed-rows rows) (second .1))
 
 pub writes-on : (left used places : ℕ) → true ≡ (ltb 0 left && ltb used places) → (0 < left) × (used < places)
 writes-on left used places e =

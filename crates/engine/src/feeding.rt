@@ -15,11 +15,11 @@ use record::Car;
 use record::Note;
 use window::WindowMemory;
 
-// Whether there is no place, or a timed row without a memory.
-pub fn is_idle<M: WindowMemory>(plan: &Plan, part: &[M], notes: &[Note]) -> bool
-    ensures { λ r. ⌜ r ≡ idle (rows-of (now (plan .entry))) (now (part .entry)) (now (notes .entry)) ⌝ }
+// Whether there is no tick, no place, or a timed row without a memory.
+pub fn is_idle<M: WindowMemory>(plan: &Plan, ticks: u32, part: &[M], notes: &[Note]) -> bool
+    ensures { λ r. ⌜ r ≡ idle (rows-of (now (plan .entry))) ticks (now (part .entry)) (now (notes .entry)) ⌝ }
 {
-    notes.len() == 0 || part.len() < timed(plan)
+    ticks == 0 || notes.len() == 0 || part.len() < timed(plan)
 }
 
 // Whether another run is written: there are ticks left and a place.
@@ -38,7 +38,7 @@ pub fn fill<M: WindowMemory>(
     part: &mut [M],
     notes: &mut [Note],
 ) -> Fed
-    requires { ⌜ idle (rows-of (now plan)) (now part) (now notes) ≡ false ⌝ }
+    requires { ⌜ idle (rows-of (now plan)) ticks (now part) (now notes) ≡ false ⌝ }
     ensures bounded { λ r. ⌜ Bounded (rows-of (now (plan .entry))) ticks (now (part .entry)) (now (notes .entry)) (now (part .exit)) (now (notes .exit)) r ⌝ }
     ensures judged { λ r. ⌜ ((h : List ℕ) → Means meaning (rows-of (now (plan .entry))) (now (part .entry)) h → Judged meaning (rows-of (now (plan .entry))) h car word ticks (now (part .entry)) (now (notes .entry)) (now (part .exit)) (now (notes .exit)) r) ⌝ }
 {

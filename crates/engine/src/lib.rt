@@ -45,8 +45,8 @@ pub fn clear<M: WindowMemory>(plan: &Plan, part: &mut [M])
 }
 
 // Feeds so many ticks with this input word: cuts their verdict words into longest runs, writes as many first runs as
-// there are places, and takes the ticks that these cover. Where there is no place, or a timed row has no memory,
-// nothing is written and nothing taken.
+// there are places, and takes the ticks that these cover. Where there is no tick, no place, or a timed row without a
+// memory, nothing is written and nothing taken.
 pub fn feed<M: WindowMemory>(
     plan: &Plan,
     car: Car,
@@ -55,11 +55,11 @@ pub fn feed<M: WindowMemory>(
     part: &mut [M],
     notes: &mut [Note],
 ) -> Fed
-    ensures unfed { λ r. ⌜ (idle (rows-of (now (plan .entry))) (now (part .entry)) (now (notes .entry)) ≡ true → Unfed (now (part .entry)) (now (notes .entry)) (now (part .exit)) (now (notes .exit)) r) ⌝ }
+    ensures unfed { λ r. ⌜ (idle (rows-of (now (plan .entry))) ticks (now (part .entry)) (now (notes .entry)) ≡ true → Unfed (now (part .entry)) (now (notes .entry)) (now (part .exit)) (now (notes .exit)) r) ⌝ }
     ensures bounded { λ r. ⌜ Bounded (rows-of (now (plan .entry))) ticks (now (part .entry)) (now (notes .entry)) (now (part .exit)) (now (notes .exit)) r ⌝ }
     ensures judged { λ r. ⌜ ((h : List ℕ) → Means meaning (rows-of (now (plan .entry))) (now (part .entry)) h → Judged meaning (rows-of (now (plan .entry))) h car word ticks (now (part .entry)) (now (notes .entry)) (now (part .exit)) (now (notes .exit)) r) ⌝ }
 {
-    if is_idle(plan, part, notes) {
+    if is_idle(plan, ticks, part, notes) {
         return Fed { notes: 0, ticks: 0 };
     }
     fill(plan, car, word, ticks, part, notes)

@@ -56,16 +56,16 @@ returns g c =
     record {
       bounded = record {
         part-length = c .loop-car .kept .part;
-        places = long;
+        places-length = long;
         past = inv .4;
         rest = inv .3;
-        few = inv .1;
-        within = omega arith;
-        some = λ busy pos.
-            let room = idle-not (rows-of (c .args .plan .now)) (c .args .part .now) (c .args .notes .now) busy .0 in
+        within-places = inv .1;
+        within-ticks = omega arith;
+        some = λ busy.
+            let work = idle-not (rows-of (c .args .plan .now)) all (c .args .part .now) (c .args .notes .now) busy in
             elim (cases-lt left all) [
               | inl less ↦ omega arith
-              | inr same ↦ absurd (elim (cases-lt 0 used) [ inl some ↦ omega (arith, inv .2 some) | inr none ↦ writes-off left used places stop (omega arith) (omega arith) ])
+              | inr same ↦ absurd (elim (cases-lt 0 used) [ inl some ↦ omega (arith, inv .2 some) | inr none ↦ writes-off left used places stop (omega (arith, work .0)) (omega (arith, work .1)) ])
             ];
       };
       judged = λ h means.

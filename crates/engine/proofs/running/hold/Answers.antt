@@ -16,6 +16,7 @@ returns g c =
     let is = c .capped-at-n .ensures in
     let pos : 0 < n = omega (arith, is, capped-positive (s .lasts) (c .args .most) (c .pre .2 .some) (c .pre .1)) in
     record {
+      ticks = is;
       some = (pos, omega (arith, is, capped-most (s .lasts) (c .args .most)));
       held = held-step (g .M·WindowMemory .meaning) (rows-of p) (used-chained (p .rows) (p .count) (p .few) (p .each)) (used-proper (p .rows) (p .count) (p .few) (p .each)) (c .args .word)
           (c .args .part .now) (c .advance .last .part) (s .readings) (s .word) (s .lasts) n (c .pre .2) pos
