@@ -1,13 +1,9 @@
 -- Cleared memories mean the empty history. Assumes nothing.
 use mathlib.Core.Path.{_≡_, refl, sym, ap, subst, _∙_}
 use mathlib.Core.List.{List, []}
-use mathlib.Core.Bool.{cond}
-use Prim.Native.Nat.{ℕ, _<_, _≤_}
+use Prim.Native.Nat.{ℕ, min, _<_, _≤_}
 use native.Mathlib.Omega.{arith}
-use lib.Dec.{ltb}
 use lib.ListN.{getD, length}
-use Rattle.std.proofs.shelf.Lists.{getD-past}
-use Rattle.std.proofs.shelf.Ways.{tells}
 use Rattle.mitl.specs.declared.Row.{Row}
 use Rattle.mitl.specs.Memory.{Meaning, cleared}
 use Rattle.mitl.specs.Rows.{timed-rows, timed-before}
@@ -16,10 +12,10 @@ use Rattle.engine.proofs.Plans.{timed-past}
 
 module _ {X : Type 0} (meaning : X → Meaning) (f : Meaning → Meaning) (n end : ℕ) (xs ys : List X) where
   -- as many as there are
-  pub changed-all : end ≡ cond (ltb n (length xs)) n (length xs) → length ys ≡ length xs → Changed meaning f end xs ys → Changed meaning f n xs ys
+  pub changed-all : end ≡ min n (length xs) → length ys ≡ length xs → Changed meaning f end xs ys → Changed meaning f n xs ys
   changed-all e long a = record {
-    there = λ i z low lt. a .there i z (grind (arith, tells)) lt;
-    past = λ i z le. a .past i z (grind (arith, tells));
+    there = λ i z low lt. a .there i z (omega arith) lt;
+    past = λ i z le. a .past i z (omega arith);
   }
 
 module _ {X : Type 0} (meaning : X → Meaning) (rows : List Row) (xs ys : List X) where

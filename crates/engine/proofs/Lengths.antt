@@ -1,11 +1,11 @@
 -- For how long readings last. Assumes nothing.
 use mathlib.Core.Path.{_≡_, refl, sym, ap, subst, _∙_}
 use mathlib.Core.Bool.{Bool, true, false, not, cond, _&&_}
-use Prim.Native.Nat.{ℕ, zero, suc, _<_, _≤_}
+use mathlib.Core.Logic.{inl, inr}
+use Prim.Native.Nat.{ℕ, zero, suc, min, _<_, _≤_}
 use native.Mathlib.Omega.{arith}
-use lib.Dec.{ltb}
-use Rattle.std.proofs.shelf.Ways.{tells}
-use Rattle.std.proofs.shelf.Tests.{cond-both, ltb-true, ltb-false}
+use native.Mathlib.Nat.{min-eq-left, min-eq-right}
+use Rattle.std.proofs.shelf.Tests.{cases-lt}
 use Rattle.std.specs.declared.option.Option.{Option}
 use Rattle.std.specs.declared.option.Option.the-variants.{Some, None}
 use Rattle.mitl.specs.Memory.{Lasts}
@@ -32,25 +32,24 @@ lasts-some f r (Some n) l = l .0
 pub before-shorter : (d : ℕ) (x y : Option ℕ) → Before d (shorter x y) → Before d x × Before d y
 before-shorter d None y b = (tt, b)
 before-shorter d (Some x) None b = (b, tt)
-before-shorter d (Some x) (Some y) b =
-    cond-both (ltb x y) x y (λ n. d < n → (d < x) × (d < y)) (λ e lt. let le = ltb-true x y e in (lt, omega arith)) (λ e lt. let le = ltb-false x y e in (omega arith, lt)) b
+before-shorter d (Some x) (Some y) b = (omega (arith, b), omega (arith, b))
 
 pub shorter-before : (d : ℕ) (x y : Option ℕ) → Before d x → Before d y → Before d (shorter x y)
 shorter-before d None y b b′ = b′
 shorter-before d (Some x) None b b′ = b
-shorter-before d (Some x) (Some y) b b′ = cond-both (ltb x y) x y (λ n. d < n) (λ e. b) (λ e. b′)
+shorter-before d (Some x) (Some y) b b′ = omega (arith, b, b′)
 
 pub capped-positive : (o : Option ℕ) (n : ℕ) → Before 0 o → 0 < n → 0 < capped o n
 capped-positive None n b pos = pos
-capped-positive (Some x) n b pos = cond-both (ltb x n) x n (λ m. 0 < m) (λ e. b) (λ e. pos)
+capped-positive (Some x) n b pos = omega (arith, b)
 
 pub capped-most : (o : Option ℕ) (n : ℕ) → capped o n ≤ n
 capped-most None n = omega arith
-capped-most (Some x) n = cond-both (ltb x n) x n (λ m. m ≤ n) (λ e. let lt = ltb-true x n e in omega arith) (λ e. omega arith)
+capped-most (Some x) n = omega arith
 
 pub capped-before : (o : Option ℕ) (n d : ℕ) → d < capped o n → Before d o
 capped-before None n d lt = tt
-capped-before (Some x) n d lt = cond-both (ltb x n) x n (λ m. d < m → d < x) (λ e l. l) (λ e l. let le = ltb-false x n e in omega arith) lt
+capped-before (Some x) n d lt = omega (arith, lt)
 
 pub end-lasts : (f : ℕ → Bool) (r : Bool) (o : Option ℕ) → Lasts f r o → {P : ℕ → Type 0} → ((d : ℕ) → f d ≡ not r → P d) → At-end P o
 end-lasts f r None l p = tt
@@ -59,7 +58,8 @@ end-lasts f r (Some n) l p = p n (l .2)
 pub end-shorter : (P : ℕ → Type 0) (x y : Option ℕ) → At-end P x → At-end P y → At-end P (shorter x y)
 end-shorter P None y e e′ = e′
 end-shorter P (Some x) None e e′ = e
-end-shorter P (Some x) (Some y) e e′ = cond-both (ltb x y) x y P (λ _. e) (λ _. e′)
+end-shorter P (Some x) (Some y) e e′ =
+    elim (cases-lt x y) [ inl less ↦ subst P (sym (min-eq-left (omega arith))) e | inr more ↦ subst P (sym (min-eq-right more)) e′ ]
 
 pub end-map : (P Q : ℕ → Type 0) (o : Option ℕ) → ((d : ℕ) → P d → Q d) → At-end P o → At-end Q o
 end-map P Q None f e = tt

@@ -1,9 +1,8 @@
 -- One step over the rows, and how it changes the memories. Assumes nothing.
 use mathlib.Core.Path.{_≡_}
-use mathlib.Core.Bool.{Bool, true, false, not, cond, _&&_, _||_}
+use mathlib.Core.Bool.{Bool, true, false, not, _&&_, _||_}
 use mathlib.Core.List.{List, map}
-use Prim.Native.Nat.{ℕ, _<_, _≤_}
-use lib.Dec.{ltb}
+use Prim.Native.Nat.{ℕ, min, _<_, _≤_}
 use lib.ListN.{getD, length}
 use Rattle.std.specs.declared.option.Option.{Option}
 use Rattle.std.specs.declared.option.Option.the-variants.{Some, None}
@@ -54,12 +53,12 @@ Before d (Some n) = d < n
 abbrev pub shorter : Option ℕ → Option ℕ → Option ℕ
 shorter None y = y
 shorter (Some x) None = Some x
-shorter (Some x) (Some y) = Some (cond (ltb x y) x y)
+shorter (Some x) (Some y) = Some (min x y)
 
 -- a length, and at most n
 abbrev pub capped : Option ℕ → ℕ → ℕ
 capped None n = n
-capped (Some x) n = cond (ltb x n) x n
+capped (Some x) n = min x n
 
 -- P holds at the end of a length that is not for ever
 abbrev pub At-end : (ℕ → Type 0) → Option ℕ → Type 0

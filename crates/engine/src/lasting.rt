@@ -1,8 +1,6 @@
-//! Readings, and for how long they last: `None` is for ever.
+//! For how long readings last: `None` is for ever.
 ghost use mathlib.Core.Path.{_≡_};
-ghost use mathlib.Core.Bool.{Bool, true, false, not, cond, _&&_};
-ghost use Prim.Native.Nat.{ℕ, _<_};
-ghost use lib.Dec.{ltb};
+ghost use mathlib.Core.Bool.{Bool, not};
 ghost use Rattle.engine.specs.Steps.{shorter, capped};
 
 // The shorter of two lengths.
@@ -12,7 +10,7 @@ pub fn shorter_of(x: Option<u32>, y: Option<u32>) -> Option<u32>
     match (x, y) {
         (None, y) => y,
         (x, None) => x,
-        (Some(x), Some(y)) => Some(if x < y { x } else { y }),
+        (Some(x), Some(y)) => Some(x.min(y)),
     }
 }
 
@@ -21,7 +19,7 @@ pub fn capped_at(lasts: Option<u32>, left: u32) -> u32
     ensures { λ r. ⌜ r ≡ capped lasts left ⌝ }
 {
     match lasts {
-        Some(n) => { if n < left { n } else { left } }
+        Some(n) => n.min(left),
         None => left,
     }
 }
@@ -32,10 +30,4 @@ pub fn turned(run: (bool, Option<u32>)) -> (bool, Option<u32>)
 {
     let (verdict, lasts) = run;
     (!verdict, lasts)
-}
-
-pub fn lesser(x: usize, y: usize) -> usize
-    ensures { λ r. ⌜ r ≡ cond (ltb x y) x y ⌝ }
-{
-    if x < y { x } else { y }
 }

@@ -13,5 +13,5 @@ returns g c =
     let xs = c .args .part .now in
     let ys = c .clear-first .last .part in
     let changed : Changed o cleared (timed-rows rows) xs ys =
-    subst (λ n. Changed o cleared n xs ys) (c .timed .ensures) (changed-all o cleared (c .timed .result) (c .lesser-end .result) xs ys (c .lesser-end .ensures) (c .clear-first .kept .part) (c .clear-first .ensures)) in
+    subst (λ n. Changed o cleared n xs ys) (c .timed .ensures) (changed-all o cleared (c .timed .result) (c .min-end .result) xs ys (c .min-end .ensures) (c .clear-first .kept .part) (c .clear-first .ensures)) in
     record { memories = changed; means = cleared-means o rows xs ys (c .clear-first .kept .part) changed }
