@@ -22,8 +22,8 @@ use Rattle.engine.specs.Steps.{Readable}
 operand : (rows : List Row) (k l : ℕ) → operand-ok rows k l ≡ true → l < k
 operand rows k l ok = ltb-true l k (and-parts (ltb l k) (not (is-a-rule (row-at rows l))) ok .0)
 
-window-order : (a b : ℕ) → sound-window a b ≡ true → a < b
-window-order a b ok = ltb-true a b (and-parts (ltb a b) (leb b 864000) ok .0)
+window-order : (a b : ℕ) → sound-window a b ≡ true → a ≤ b
+window-order a b ok = omega (arith, ltb-true a b (and-parts (ltb a b) (leb b 864000) ok .0))
 
 module _ (rows : List Row) (k : ℕ) where
   pub ok-earlier : (r : Row) → row-ok rows k r ≡ true → Earlier k r
