@@ -4,6 +4,7 @@ ghost use mathlib.Core.Bool.{true, _&&_};
 ghost use mathlib.Core.List.{List, [], _∷_};
 ghost use Prim.Native.Nat.{ℕ, _<_, _≤_};
 ghost use lib.ListN.{length};
+ghost use Rattle.std.specs.Slices.{found};
 ghost use Rattle.mitl.specs.Rows.{row-at, timed-before};
 ghost use Rattle.mitl.specs.Windows.{sound-window, some-below, all-below};
 ghost use Rattle.mitl.specs.Rows.{is-timed};
@@ -137,7 +138,8 @@ pub fn build(rows: [Row; 64], numbers: [u8; 64], count: usize) -> Option<Plan>
 
 // The place of the row with this number, by the numbers along the chain.
 pub fn place_among(numbers: &[u8], number: u8) -> Option<usize>
-    ensures { λ r. ⌜ r ≡ place-among (now (numbers .entry)) number ⌝ }
+    ensures value { λ r. ⌜ r ≡ place-among (now (numbers .entry)) number ⌝ }
+    ensures within { λ r. ⌜ found r (λ k. k < length (now (numbers .entry))) ⌝ }
 {
     for (i, n) in numbers.iter().enumerate() {
         if *n == number {
@@ -186,7 +188,8 @@ impl Plan {
 
     // The place on the chain of the row with this number in its table.
     pub fn place(&self, number: u8) -> Option<usize>
-        ensures { λ r. ⌜ r ≡ place-among (numbers-of (now (self .entry))) number ⌝ }
+        ensures value { λ r. ⌜ r ≡ place-among (numbers-of (now (self .entry))) number ⌝ }
+        ensures within { λ r. ⌜ found r (λ k. k < now (self .entry) .count) ⌝ }
     {
         place_among(&self.numbers[..self.count], number)
     }

@@ -18,7 +18,7 @@ returns-then-n-number c =
     let i = c .loop-i .i in
     let n = c .args .number in
     let step : place-from i (drop i ns) n ≡ cond (eqb (getD ns i 0) n) (Some i) (place-from (i + 1) (drop (i + 1) ns) n) = at-drop-more (λ l. place-from i l n) ns i 0 (c .loop-i-test .taken) in
-    sym (cond-true (eqb (getD ns i 0) n) (Some i) _ (eq-eqb _ _ (c .if-n-number .taken))) ∙ sym step ∙ c .loop-i .inv
+    record { value = sym (cond-true (eqb (getD ns i 0) n) (Some i) _ (eq-eqb _ _ (c .if-n-number .taken))) ∙ sym step ∙ c .loop-i .inv; within = c .loop-i-test .taken }
 
 pub loop-i-again : need.loop-i-again
 loop-i-again c =
@@ -34,4 +34,4 @@ returns c =
     let i = c .loop-i .i in
     let n = c .args .number in
     let end : place-from i (drop i ns) n ≡ None = at-drop-all (λ l. place-from i l n) ns i (c .loop-i-test .left) in
-    sym end ∙ c .loop-i .inv
+    record { value = sym end ∙ c .loop-i .inv; within = tt }

@@ -1,0 +1,34 @@
+-- What decoding a table replies. Assumes nothing.
+use mathlib.Core.Path.{_≡_}
+use mathlib.Core.Bool.{Bool}
+use mathlib.Core.List.{List}
+use Prim.Native.Nat.{ℕ, _-_}
+use lib.ListN.{drop, replicate}
+use Rattle.std.specs.declared.option.Option.the-variants.{Some, None}
+use Rattle.std.specs.declared.result.Result.{Result}
+use Rattle.std.specs.declared.result.Result.the-variants.{Ok, Err}
+use Rattle.mitl.specs.declared.Row.the-variants.{Input}
+use Rattle.plan.specs.declared.plan.Plan.{Plan}
+use Rattle.plan.specs.Rows.{rows-of, numbers-of}
+use Rattle.table.specs.declared.Head.{Head}
+use Rattle.table.specs.declared.fault.TableFault.{TableFault}
+use Rattle.table.specs.Chain.{head-faults, table-refusal, rows-in, numbers-in}
+use Rattle.table.specs.Layout.{rows-told, first-told}
+use Rattle.table.specs.Refusals.{of-table, first-fault}
+
+-- p is the plan of the table t: the rows of its chain with their numbers, and nothing else
+pub record Plan-of (t : List ℕ) (p : Plan) : Type 0 where
+  pub rows : rows-of p ≡ rows-in t
+  pub numbers : numbers-of p ≡ numbers-in t
+  pub idle-rows : drop (p .count) (p .rows) ≡ replicate (64 - p .count) (Input 0)
+  pub idle-numbers : drop (p .count) (p .numbers) ≡ replicate (64 - p .count) 0
+
+-- The reply to a table: its refusal, or its plan where it has none.
+abbrev pub Decoded : (ℕ → ℕ → Bool) → List ℕ → Result Plan TableFault → Type 0
+Decoded admits t (Ok p) = (table-refusal admits t ≡ None) × Plan-of t p
+Decoded admits t (Err f) = table-refusal admits t ≡ Some (of-table f)
+
+-- what opening a table replies: the first fault of its head, or what the head tells where it has none
+abbrev pub Opened : List ℕ → Result Head TableFault → Type 0
+Opened t (Ok h) = (first-fault (head-faults t) ≡ None) × (h .told ≡ rows-told t) × (h .first ≡ first-told t)
+Opened t (Err f) = first-fault (head-faults t) ≡ Some (of-table f)

@@ -1,0 +1,6 @@
+pub mod Refusals
+pub mod Layout
+pub mod Letters
+pub mod Faults
+pub mod Chain
+pub mod Decoded
