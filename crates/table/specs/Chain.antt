@@ -83,10 +83,13 @@ module _ (admits : ℕ → ℕ → Bool) where
   row-faults t i =
       faults-of admits (rows-told t) (numbers-before t i) (rows-before t i) (on-chain t i) (letter-at t i) (fields-at t i)
 
-  -- all faults, in the order in which they are told: the head's, those of each row along the chain, and a chain without a rule
+  -- those of each row along the chain
+  abbrev pub chain-faults : List ℕ → List Check
+  chain-faults t = joined (row-faults t) (counting 0 (chain-length t))
+
+  -- All faults, in the order in which they are told: the head's, the rows', and a chain without a rule.
   abbrev pub table-faults : List ℕ → List Check
-  table-faults t =
-      head-faults t ++ (joined (row-faults t) (counting 0 (chain-length t)) ++ (check (not (ruled t)) 11 0 ∷ []))
+  table-faults t = head-faults t ++ (chain-faults t ++ (check (not (ruled t)) 11 0 ∷ []))
 
   -- The refusal of a table: that of its first fault. A sound table has none.
   unfoldable pub table-refusal : List ℕ → Option Refusal

@@ -7,13 +7,20 @@ ghost use mathlib.Core.Path.{_≡_};
 ghost use mathlib.Core.Bool.{true};
 ghost use Prim.Native.Nat.{ℕ, _+_, _*_, _<_, _≤_};
 ghost use lib.ListN.{length};
-ghost use Rattle.table.specs.Decoded.{Opened};
+ghost use Rattle.std.specs.declared.result.Result.the-variants.{Ok};
+ghost use Rattle.table.specs.Decoded.{Decoded, Opened, Walked};
 ghost use Rattle.table.specs.Chain.{right-head};
 
 pub mod fault;
 mod row;
 
+use fault::RowFault;
 use fault::TableFault;
+use fault::TableFromRow;
+use mitl::Row;
+use plan::build;
+use plan::plan::Plan;
+use window::Admission;
 
 // What the head tells: how many rows there are, and the first of the chain.
 #[derive(Clone, Copy)]
@@ -52,4 +59,65 @@ fn open(bytes: &[u8]) -> Result<Head, TableFault>
         return Err(TableFault::Length);
     }
     Ok(head)
+}
+
+// The rows of a chain from the front of `rows`, and their numbers.
+#[derive(Clone, Copy)]
+struct Draft {
+    rows: [Row; 64],
+    numbers: [u8; 64],
+    count: usize,
+}
+
+// The rows along the chain, or their first fault.
+fn walk<A: Admission>(bytes: &[u8], head: Head) -> Result<Draft, RowFault>
+    requires { ⌜ Opened (now bytes) (Ok head) ⌝ }
+    ensures { λ r. ⌜ Walked (A·Admission .admitted) (now (bytes .entry)) r ⌝ }
+{
+    let mut rows = [Row::Input { bit: 0 }; 64];
+    let mut numbers = [0; 64];
+    let mut count = 0;
+    let mut at = head.first;
+    while at != 0 {
+        let step = row::take::<A>(bytes, head.told, &numbers[..count], &rows[..count], at)?;
+        rows[count] = step.row;
+        numbers[count] = at;
+        count += 1;
+        at = step.next;
+    }
+    Ok(Draft {
+        rows,
+        numbers,
+        count,
+    })
+}
+
+// The plan of a table for memories that admit these windows, or the table's refusal.
+pub fn decode<A: Admission>(bytes: &[u8]) -> Result<Plan, TableFault>
+    ensures { λ r. ⌜ Decoded (A·Admission .admitted) (now (bytes .entry)) r ⌝ }
+{
+    let head = open(bytes)?;
+    let draft = walk::<A>(bytes, head)?;
+    match build(draft.rows, draft.numbers, draft.count) {
+        Some(plan) => Ok(plan),
+        None => Err(TableFault::NoRule),
+    }
+}
+
+// Admits every window: for reading a table without a memory kind.
+pub struct AnyWindow;
+
+pub impl Admission for AnyWindow as AnyWindowAdmission {
+    ghost admitted = { λ _ _. true };
+
+    fn admits(_a: u32, _b: u32) -> bool {
+        true
+    }
+}
+
+// The plan of a table, whatever windows a memory kind admits, or the table's refusal.
+pub fn decode_any(bytes: &[u8]) -> Result<Plan, TableFault>
+    ensures { λ r. ⌜ Decoded (λ _ _. true) (now (bytes .entry)) r ⌝ }
+{
+    decode::<AnyWindow>(bytes)
 }
