@@ -53,7 +53,7 @@ module _ (admits : ℕ → ℕ → Bool) (t : List ℕ) where
     low-at zero l = h .low-first
     low-at (suc k) l = fine-at k (fine k (omega arith)) .2 .within
 
-    apart-at : (j k : ℕ) → j < k → k ≤ n → on-chain t j ≡ on-chain t k → ⊥
+    pub apart-at : (j k : ℕ) → j < k → k ≤ n → on-chain t j ≡ on-chain t k → ⊥
     apart-at j zero l m e = omega arith
     apart-at j (suc k) l m e =
         let f = fine-at k (fine k (omega arith)) .2 in
@@ -65,11 +65,11 @@ module _ (admits : ℕ → ℕ → Bool) (t : List ℕ) where
               (getD-map-counting (on-chain t) 0 k j j 0 (omega arith) (omega arith) ∙ e)
         ]
 
-    -- no row is taken twice, so there are never more than 64
-    pub room-at : ((k : ℕ) → k ≤ n → on-chain t k ≡ 0 → ⊥) → n < 64
+    -- no row is taken twice, so there are never more than the table has
+    pub room-at : ((k : ℕ) → k ≤ n → on-chain t k ≡ 0 → ⊥) → n < rows-told t
     room-at met =
-        few-distinct (λ k. on-chain t k - 1) 64 (suc n)
-        (λ k l. omega (arith, low-at k (omega arith), h .few-rows))
+        few-distinct (λ k. on-chain t k - 1) (rows-told t) (suc n)
+        (λ k l. omega (arith, low-at k (omega arith), met k (omega arith)))
         (λ j k l m e. apart-at j k l (omega arith) (omega (arith, met j (omega arith), met k (omega arith))))
 
 -- the chain is longer than n rows

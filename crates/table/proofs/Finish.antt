@@ -55,6 +55,7 @@ module _ (admits : ℕ → ℕ → Bool) (t : List ℕ) (d : Draft) (of : Draft-
   pub planned : (p : Plan) → p .rows ≡ d .rows → p .numbers ≡ d .numbers → p .count ≡ d .count → Plan-of t p
   planned p rows numbers count =
       record {
+        count = count ∙ of .count;
         rows = (λ i. take (count i) (rows i)) ∙ of .rows ∙ ap (rows-before t) (of .count);
         numbers = (λ i. take (count i) (numbers i)) ∙ of .numbers ∙ ap (numbers-before t) (of .count);
         idle-rows = (λ i. drop (count i) (rows i)) ∙ of .idle-rows ∙ ap (λ n. replicate (64 - n) (Input 0)) (sym count);

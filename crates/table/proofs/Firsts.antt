@@ -47,7 +47,23 @@ before-rest (x ∷ xs) ys r e =
           ∙ before-rest xs ys r (sym (cond-false (x .held) (Some (x .refusal)) (first-fault xs) y) ∙ e)
     ]
 
+pub none-parts : (xs ys : List Check) → first-fault (xs ++ ys) ≡ None → (first-fault xs ≡ None) × (first-fault ys ≡ None)
+none-parts [] ys e = (refl, e)
+none-parts (x ∷ xs) ys e =
+    let held = none-held (x ∷ (xs ++ ys)) e .0 in
+    let rest = none-parts xs ys (sym (cond-false (x .held) (Some (x .refusal)) (first-fault (xs ++ ys)) held) ∙ e) in
+    (cond-false (x .held) (Some (x .refusal)) (first-fault xs) held ∙ rest .0, rest .1)
+
 module _ (f : ℕ → List Check) where
+  pub none-along : (a n : ℕ) → first-fault (joined f (counting a n)) ≡ None → (k : ℕ) → a ≤ k → k < a + n → first-fault (f k) ≡ None
+  none-along a zero e k low high = absurd (omega arith)
+  none-along a (suc n) e k low high =
+      let parts = none-parts (f a) (joined f (counting (a + 1) n)) e in
+      elim (cases-eq a k) [
+        | inl same ↦ ap (λ i. first-fault (f i)) (sym same) ∙ parts .0
+        | inr other ↦ none-along (a + 1) n (parts .1) k (omega arith) (omega arith)
+      ]
+
   pub along-none : (a n : ℕ) → ((k : ℕ) → a ≤ k → k < a + n → first-fault (f k) ≡ None) → first-fault (joined f (counting a n)) ≡ None
   along-none a zero none = refl
   along-none a (suc n) none =
@@ -88,4 +104,25 @@ module _ (p : ℕ → Bool) where
         | inr other ↦
             let e = cond-false (p i) i (first-from p (suc i) n) (none i (omega arith) (omega arith)) in
             omega (arith, e, first-past (suc i) n j (omega arith) (omega arith) (λ k l h. none k (omega arith) h))
+      ]
+
+  -- what the first number is known for
+  pub first-before : (i n k : ℕ) → i ≤ k → k < first-from p i n → p k ≡ false
+  first-before i zero k low high = absurd (omega arith)
+  first-before i (suc n) k low high =
+      elim (cases-bool (p i)) [
+        | inl y ↦ let e = cond-true (p i) i (first-from p (suc i) n) y in absurd (omega arith)
+        | inr y ↦
+            let e = cond-false (p i) i (first-from p (suc i) n) y in
+            elim (cases-eq i k) [ inl same ↦ ap p (sym same) ∙ y | inr other ↦ first-before (suc i) n k (omega arith) (omega arith) ]
+      ]
+
+  pub first-at : (i n : ℕ) → first-from p i n < i + n → p (first-from p i n) ≡ true
+  first-at i zero high = absurd (omega arith)
+  first-at i (suc n) high =
+      elim (cases-bool (p i)) [
+        | inl y ↦ ap p (cond-true (p i) i (first-from p (suc i) n) y) ∙ y
+        | inr y ↦
+            let e = cond-false (p i) i (first-from p (suc i) n) y in
+            ap p e ∙ first-at (suc i) n (omega arith)
       ]

@@ -4,3 +4,4 @@ pub mod Fine
 pub mod Chains
 pub mod Walking
 pub mod Finish
+pub mod Laws

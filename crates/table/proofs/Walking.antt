@@ -65,7 +65,7 @@ module _ (admits : ℕ → ℕ → Bool) (t : List ℕ) (h : Headed t) (rows : L
         elim (cases-eq k n) [ inl same ↦ on (w .here ∙ ap (on-chain t) (sym same) ∙ e) | inr other ↦ w .met k (omega arith) e ]
 
     pub room : n < 64
-    room = room-at admits t h n (w .fine) met-all
+    room = omega (arith, room-at admits t h n (w .fine) met-all, h .few-rows)
 
     pub ready : (1 ≤ at) × (row-start at + 16 ≤ length t) × (length (take n numbers) ≡ length (take n rows)) × (length (take n rows) ≤ 64)
     ready =

@@ -20,6 +20,7 @@ use Rattle.table.specs.Refusals.{of-row, of-table, first-fault}
 
 -- p is the plan of the table t: the rows of its chain with their numbers, and nothing else
 pub record Plan-of (t : List ℕ) (p : Plan) : Type 0 where
+  pub count : p .count ≡ chain-length t
   pub rows : rows-of p ≡ rows-in t
   pub numbers : numbers-of p ≡ numbers-in t
   pub idle-rows : drop (p .count) (p .rows) ≡ replicate (64 - p .count) (Input 0)

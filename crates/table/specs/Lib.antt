@@ -4,3 +4,4 @@ pub mod Letters
 pub mod Faults
 pub mod Chain
 pub mod Decoded
+pub mod Laws

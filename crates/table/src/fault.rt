@@ -4,7 +4,7 @@ ghost use Rattle.table.specs.Refusals.{of-row, of-table};
 ghost use Rattle.table.specs.declared.fault.TableFault.the-variants.{Row};
 
 // A refusal's number, and where the fault is.
-#[derive(Clone, Copy, PartialEq, Eq, Debug)]
+#[derive(Clone, Copy)]
 pub struct Refusal {
     pub number: u8,
     pub place: u32,

@@ -8,6 +8,7 @@ ghost use mathlib.Core.Bool.{true};
 ghost use Prim.Native.Nat.{ℕ, _+_, _*_, _<_, _≤_};
 ghost use lib.ListN.{length};
 ghost use Rattle.std.specs.declared.result.Result.the-variants.{Ok};
+ghost use Rattle.table.specs.Laws.{Tables-told};
 ghost use Rattle.table.specs.Decoded.{Decoded, Opened, Walked};
 ghost use Rattle.table.specs.Chain.{right-head};
 
@@ -120,4 +121,12 @@ pub fn decode_any(bytes: &[u8]) -> Result<Plan, TableFault>
     ensures { λ r. ⌜ Decoded (λ _ _. true) (now (bytes .entry)) r ⌝ }
 {
     decode::<AnyWindow>(bytes)
+}
+
+// The refusal of a table in words of the places along its chain, that a sound chain ends and takes no row twice,
+// and that a table has one reply.
+pub fn tables_hold() -> u8
+    ensures { λ _. ⌜ Tables-told ⌝ }
+{
+    0
 }
