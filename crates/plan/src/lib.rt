@@ -12,7 +12,7 @@ ghost use Rattle.mitl.specs.declared.Row.the-variants.{Input, Rule};
 ghost use Rattle.plan.specs.Built.{Built};
 ghost use Rattle.plan.specs.Places.{place-among};
 ghost use Rattle.plan.specs.Rows.{rows-of, numbers-of};
-ghost use Rattle.plan.specs.Sound.{is-a-rule, operand-ok, row-ok};
+ghost use Rattle.plan.specs.Sound.{is-a-rule, operand-ok, row-ok, sound-rows};
 ghost use Rattle.plan.specs.Totals.{counts-of, rules-before};
 
 pub mod plan;
@@ -121,11 +121,18 @@ fn has_rule(rows: &[Row; 64], count: usize) -> bool
     false
 }
 
+// Whether the first `count` rows may be a plan.
+fn is_sound(rows: &[Row; 64], count: usize) -> bool
+    ensures { λ r. ⌜ r ≡ sound-rows (now (rows .entry)) count ⌝ }
+{
+    count <= 64 && each_fits(rows, count) && has_rule(rows, count)
+}
+
 // The plan of the first `count` rows and their numbers, unless they are no plan.
 pub fn build(rows: [Row; 64], numbers: [u8; 64], count: usize) -> Option<Plan>
     ensures { λ r. ⌜ Built rows numbers count r ⌝ }
 {
-    if count <= 64 && each_fits(&rows, count) && has_rule(&rows, count) {
+    if is_sound(&rows, count) {
         Some(Plan {
             rows,
             numbers,
@@ -136,8 +143,7 @@ pub fn build(rows: [Row; 64], numbers: [u8; 64], count: usize) -> Option<Plan>
     }
 }
 
-// The place of the row with this number, by the numbers along the chain.
-pub fn place_among(numbers: &[u8], number: u8) -> Option<usize>
+fn first_place(numbers: &[u8], number: u8) -> Option<usize>
     ensures value { λ r. ⌜ r ≡ place-among (now (numbers .entry)) number ⌝ }
     ensures within { λ r. ⌜ found r (λ k. k < length (now (numbers .entry))) ⌝ }
 {
@@ -147,6 +153,14 @@ pub fn place_among(numbers: &[u8], number: u8) -> Option<usize>
         }
     }
     None
+}
+
+// The place of the row with this number, by the numbers along the chain.
+pub fn place_among(numbers: &[u8], number: u8) -> Option<usize>
+    ensures value { λ r. ⌜ r ≡ place-among (now (numbers .entry)) number ⌝ }
+    ensures within { λ r. ⌜ found r (λ k. k < length (now (numbers .entry))) ⌝ }
+{
+    first_place(numbers, number)
 }
 
 fn rules_among(rows: &[Row]) -> usize

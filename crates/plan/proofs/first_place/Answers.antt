@@ -10,7 +10,7 @@ use Rattle.std.proofs.shelf.Tests.{cond-true, cond-false, eq-eqb, ne-eqb}
 use Rattle.std.specs.declared.option.Option.{Option}
 use Rattle.std.specs.declared.option.Option.the-variants.{Some, None}
 use Rattle.plan.specs.Places.{place-from}
-use Rattle.plan.proofs.place_among.Needs as need
+use Rattle.plan.proofs.first_place.Needs as need
 
 pub returns-then-n-number : need.returns-then-n-number
 returns-then-n-number c =
