@@ -14,7 +14,7 @@ use Rattle.std.proofs.shelf.Tests.{and-parts, not-false, leb-true, eqb-true, eq
 use Rattle.plan.proofs.Found.{lost-from}
 use Rattle.table.specs.Chain.{on-chain, letter-at, fields-at, numbers-before, rows-before, first-from, chain-length, head-faults, marked, right-head, row-faults}
 use Rattle.table.specs.Layout.{byte-at, rows-told, first-told}
-use Rattle.table.specs.Refusals.{first-fault}
+use Rattle.refusal.specs.Faults.{first-fault}
 use Rattle.table.specs.declared.row.Letter.{Letter}
 use Rattle.table.proofs.Distinct.{few-distinct}
 use Rattle.table.proofs.Fine.{Fine, fine-of}

@@ -19,7 +19,7 @@ use Rattle.plan.specs.Sound.{is-a-rule, operand-ok, row-ok}
 use Rattle.plan.proofs.Found.{found-place}
 use Rattle.table.specs.Faults.{operand-place, unless-rule, operands-right, faults-as, faults-of, place-in, row-as}
 use Rattle.table.specs.Letters.{well-filled, window-used}
-use Rattle.table.specs.Refusals.{first-fault}
+use Rattle.refusal.specs.Faults.{first-fault}
 use Rattle.table.specs.declared.row.Fields.{Fields}
 use Rattle.table.specs.declared.row.Letter.{Letter}
 use Rattle.table.specs.declared.row.Letter.the-variants.{P, N, A, O, D, B, S, R}

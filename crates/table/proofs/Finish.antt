@@ -21,9 +21,9 @@ use Rattle.table.specs.Chain.{on-chain, row-in, fields-at, letter-at, numbers-
 use Rattle.table.specs.Decoded.{Draft-of, Plan-of}
 use Rattle.table.specs.Faults.{row-of}
 use Rattle.table.specs.Layout.{rows-told}
-use Rattle.table.specs.Refusals.{Check, first-fault, refusal-at, check}
+use Rattle.refusal.specs.Faults.{Fault, first-fault, refusal, fault}
 use Rattle.table.specs.declared.Draft.{Draft}
-use Rattle.table.specs.declared.fault.Refusal.{Refusal}
+use Rattle.refusal.specs.declared.Refusal.{Refusal}
 use Rattle.table.proofs.Chains.{fine-at}
 use Rattle.table.proofs.Fine.{row-fine}
 use Rattle.table.proofs.Firsts.{after-none, before-rest}
@@ -63,8 +63,8 @@ module _ (admits : ℕ → ℕ → Bool) (t : List ℕ) (d : Draft) (of : Draft-
       }
 
 module _ (admits : ℕ → ℕ → Bool) (t : List ℕ) where
-  last-check : List Check
-  last-check = check (not (ruled t)) 11 0 ∷ []
+  last-check : List Fault
+  last-check = fault (not (ruled t)) 11 0 ∷ []
 
   pub head-refused : (r : Refusal) → first-fault (head-faults t) ≡ Some r → table-refusal admits t ≡ Some r
   unfolding table-refusal last-check
@@ -76,14 +76,14 @@ module _ (admits : ℕ → ℕ → Bool) (t : List ℕ) where
     row-refused r e = after-none (head-faults t) (chain-faults admits t ++ last-check) opened ∙ before-rest (chain-faults admits t) last-check r e
 
     module _ (walked : first-fault (chain-faults admits t) ≡ None) where
-      pub rule-refused : ruled t ≡ false → table-refusal admits t ≡ Some (refusal-at 11 0)
+      pub rule-refused : ruled t ≡ false → table-refusal admits t ≡ Some (refusal 11 0)
       unfolding table-refusal last-check
       rule-refused none =
           after-none (head-faults t) (chain-faults admits t ++ last-check) opened ∙ after-none (chain-faults admits t) last-check walked
-          ∙ cond-true (not (ruled t)) (Some (refusal-at 11 0)) None (not-from-false (ruled t) none)
+          ∙ cond-true (not (ruled t)) (Some (refusal 11 0)) None (not-from-false (ruled t) none)
 
       pub not-refused : ruled t ≡ true → table-refusal admits t ≡ None
       unfolding table-refusal last-check
       not-refused some =
           after-none (head-faults t) (chain-faults admits t ++ last-check) opened ∙ after-none (chain-faults admits t) last-check walked
-          ∙ cond-false (not (ruled t)) (Some (refusal-at 11 0)) None (not-from-true (ruled t) some)
+          ∙ cond-false (not (ruled t)) (Some (refusal 11 0)) None (not-from-true (ruled t) some)

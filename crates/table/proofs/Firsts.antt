@@ -13,48 +13,48 @@ use Rattle.std.specs.declared.option.Option.the-variants.{Some, None}
 use Rattle.std.proofs.shelf.Tests.{cases-bool, cases-eq, cond-true, cond-false}
 use Rattle.std.proofs.shelf.Ways.{tells}
 use Rattle.table.specs.Chain.{first-from}
-use Rattle.table.specs.Refusals.{Check, first-fault}
-use Rattle.table.specs.declared.fault.Refusal.{Refusal}
+use Rattle.refusal.specs.Faults.{Fault, first-fault}
+use Rattle.refusal.specs.declared.Refusal.{Refusal}
 
 -- where no fault is first, none holds
-pub none-held : (fs : List Check) → first-fault fs ≡ None → All (λ f. f .held ≡ false) fs
+pub none-held : (fs : List Fault) → first-fault fs ≡ None → All (λ f. f .held ≡ false) fs
 none-held [] e = tt
 none-held (f ∷ fs) e =
     elim (cases-bool (f .held)) [
       | inl y ↦
-          let s : Some (f .refusal) ≡ None = sym (cond-true (f .held) (Some (f .refusal)) (first-fault fs) y) ∙ e in
+          let s : Some (f .answer) ≡ None = sym (cond-true (f .held) (Some (f .answer)) (first-fault fs) y) ∙ e in
           let z : _≡_ {A = ℕ} 0 1 = cc in
           absurd (omega arith)
-      | inr y ↦ (y, none-held fs (sym (cond-false (f .held) (Some (f .refusal)) (first-fault fs) y) ∙ e))
+      | inr y ↦ (y, none-held fs (sym (cond-false (f .held) (Some (f .answer)) (first-fault fs) y) ∙ e))
     ]
 
-pub after-none : (xs ys : List Check) → first-fault xs ≡ None → first-fault (xs ++ ys) ≡ first-fault ys
+pub after-none : (xs ys : List Fault) → first-fault xs ≡ None → first-fault (xs ++ ys) ≡ first-fault ys
 after-none [] ys e = refl
 after-none (x ∷ xs) ys e =
     let all = none-held (x ∷ xs) e in
-    cond-false (x .held) (Some (x .refusal)) (first-fault (xs ++ ys)) (all .0)
-    ∙ after-none xs ys (sym (cond-false (x .held) (Some (x .refusal)) (first-fault xs) (all .0)) ∙ e)
+    cond-false (x .held) (Some (x .answer)) (first-fault (xs ++ ys)) (all .0)
+    ∙ after-none xs ys (sym (cond-false (x .held) (Some (x .answer)) (first-fault xs) (all .0)) ∙ e)
 
-pub before-rest : (xs ys : List Check) (r : Refusal) → first-fault xs ≡ Some r → first-fault (xs ++ ys) ≡ Some r
+pub before-rest : (xs ys : List Fault) (r : Refusal) → first-fault xs ≡ Some r → first-fault (xs ++ ys) ≡ Some r
 before-rest [] ys r e = let z : _≡_ {A = ℕ} 0 1 = cc in absurd (omega arith)
 before-rest (x ∷ xs) ys r e =
     elim (cases-bool (x .held)) [
       | inl y ↦
-          cond-true (x .held) (Some (x .refusal)) (first-fault (xs ++ ys)) y
-          ∙ sym (cond-true (x .held) (Some (x .refusal)) (first-fault xs) y) ∙ e
+          cond-true (x .held) (Some (x .answer)) (first-fault (xs ++ ys)) y
+          ∙ sym (cond-true (x .held) (Some (x .answer)) (first-fault xs) y) ∙ e
       | inr y ↦
-          cond-false (x .held) (Some (x .refusal)) (first-fault (xs ++ ys)) y
-          ∙ before-rest xs ys r (sym (cond-false (x .held) (Some (x .refusal)) (first-fault xs) y) ∙ e)
+          cond-false (x .held) (Some (x .answer)) (first-fault (xs ++ ys)) y
+          ∙ before-rest xs ys r (sym (cond-false (x .held) (Some (x .answer)) (first-fault xs) y) ∙ e)
     ]
 
-pub none-parts : (xs ys : List Check) → first-fault (xs ++ ys) ≡ None → (first-fault xs ≡ None) × (first-fault ys ≡ None)
+pub none-parts : (xs ys : List Fault) → first-fault (xs ++ ys) ≡ None → (first-fault xs ≡ None) × (first-fault ys ≡ None)
 none-parts [] ys e = (refl, e)
 none-parts (x ∷ xs) ys e =
     let held = none-held (x ∷ (xs ++ ys)) e .0 in
-    let rest = none-parts xs ys (sym (cond-false (x .held) (Some (x .refusal)) (first-fault (xs ++ ys)) held) ∙ e) in
-    (cond-false (x .held) (Some (x .refusal)) (first-fault xs) held ∙ rest .0, rest .1)
+    let rest = none-parts xs ys (sym (cond-false (x .held) (Some (x .answer)) (first-fault (xs ++ ys)) held) ∙ e) in
+    (cond-false (x .held) (Some (x .answer)) (first-fault xs) held ∙ rest .0, rest .1)
 
-module _ (f : ℕ → List Check) where
+module _ (f : ℕ → List Fault) where
   pub none-along : (a n : ℕ) → first-fault (joined f (counting a n)) ≡ None → (k : ℕ) → a ≤ k → k < a + n → first-fault (f k) ≡ None
   none-along a zero e k low high = absurd (omega arith)
   none-along a (suc n) e k low high =

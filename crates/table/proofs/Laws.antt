@@ -21,8 +21,9 @@ use Rattle.table.specs.Chain.{on-chain, row-in, fields-at, first-from, chain-l
 use Rattle.table.specs.Decoded.{Decoded, Plan-of}
 use Rattle.table.specs.Laws.{Clear, Goes-on, Told, Chained, Same-reply, Tables-told}
 use Rattle.table.specs.Layout.{rows-told}
-use Rattle.table.specs.Refusals.{Check, check, first-fault, of-table}
-use Rattle.table.specs.declared.fault.Refusal.{Refusal}
+use Rattle.refusal.specs.Faults.{Fault, fault, first-fault}
+use Rattle.table.specs.Refusals.{of-table}
+use Rattle.refusal.specs.declared.Refusal.{Refusal}
 use Rattle.table.specs.declared.fault.TableFault.{TableFault}
 use Rattle.table.proofs.Chains.{Headed, headed, low-at, apart-at, room-at, longer, ends-at}
 use Rattle.table.proofs.Finish.{head-refused, row-refused, rule-refused, not-refused}
@@ -72,7 +73,7 @@ module _ (admits : ℕ → ℕ → Bool) (t : List ℕ) where
   parts : table-refusal admits t ≡ None → (first-fault (head-faults t) ≡ None) × (first-fault (chain-faults admits t) ≡ None)
   unfolding table-refusal
   parts e =
-      let last : List Check = check (not (ruled t)) 11 0 ∷ [] in
+      let last : List Fault = fault (not (ruled t)) 11 0 ∷ [] in
       let p = none-parts (head-faults t) (chain-faults admits t ++ last) e in
       (p .0, none-parts (chain-faults admits t) last (p .1) .0)
 

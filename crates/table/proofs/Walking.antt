@@ -21,9 +21,9 @@ use Rattle.table.specs.Decoded.{Draft-of}
 use Rattle.table.specs.Faults.{Stepped, faults-of, row-of}
 use Rattle.table.specs.Layout.{fields-of, rows-told, row-start}
 use Rattle.table.specs.Letters.{letter-from}
-use Rattle.table.specs.Refusals.{first-fault}
+use Rattle.refusal.specs.Faults.{first-fault}
 use Rattle.table.specs.declared.Draft.{Draft}
-use Rattle.table.specs.declared.fault.Refusal.{Refusal}
+use Rattle.refusal.specs.declared.Refusal.{Refusal}
 use Rattle.table.specs.declared.fault.RowFault.{RowFault}
 use Rattle.table.specs.declared.row.Step.{Step}
 use Rattle.table.proofs.Chains.{Headed, low-at, room-at, longer, ends-at}

@@ -11,13 +11,13 @@ use Rattle.std.specs.declared.option.Option.{Option}
 use Rattle.mitl.specs.declared.Row.{Row}
 use Rattle.mitl.specs.Windows.{some-below}
 use Rattle.plan.specs.Sound.{is-a-rule}
-use Rattle.table.specs.declared.fault.Refusal.{Refusal}
+use Rattle.refusal.specs.declared.Refusal.{Refusal}
 use Rattle.table.specs.declared.row.Fields.{Fields}
 use Rattle.table.specs.declared.row.Letter.{Letter}
 use Rattle.table.specs.Faults.{faults-of, row-of}
 use Rattle.table.specs.Layout.{byte-at, rows-told, first-told, fields-of}
 use Rattle.table.specs.Letters.{letter-from}
-use Rattle.table.specs.Refusals.{Check, check, first-fault}
+use Rattle.refusal.specs.Faults.{Fault, fault, first-fault}
 
 -- The number of the row at place i of the chain: the first row, and then the next of the row before. Zero after its end.
 abbrev pub on-chain : List ℕ → ℕ → ℕ
@@ -69,27 +69,27 @@ abbrev pub right-head : ℕ → ℕ → ℕ → ℕ → Bool
 right-head told first z z′ = (leb 1 told && leb told 64) && ((leb 1 first && leb first told) && (eqb z 0 && eqb z′ 0))
 
 -- the faults of the head, in the order in which they are told
-abbrev pub head-faults : List ℕ → List Check
+abbrev pub head-faults : List ℕ → List Fault
 head-faults t =
-    check (ltb (length t) 8) 1 0
-    ∷ (check (not (marked t)) 2 0
-    ∷ (check (not (right-head (rows-told t) (first-told t) (byte-at t 6) (byte-at t 7))) 3 0
-    ∷ (check (not (eqb (length t) (8 + 16 * rows-told t))) 1 0
+    fault (ltb (length t) 8) 1 0
+    ∷ (fault (not (marked t)) 2 0
+    ∷ (fault (not (right-head (rows-told t) (first-told t) (byte-at t 6) (byte-at t 7))) 3 0
+    ∷ (fault (not (eqb (length t) (8 + 16 * rows-told t))) 1 0
     ∷ [])))
 
 module _ (admits : ℕ → ℕ → Bool) where
   -- the faults of the row at place i
-  abbrev pub row-faults : List ℕ → ℕ → List Check
+  abbrev pub row-faults : List ℕ → ℕ → List Fault
   row-faults t i =
       faults-of admits (rows-told t) (numbers-before t i) (rows-before t i) (on-chain t i) (letter-at t i) (fields-at t i)
 
   -- those of each row along the chain
-  abbrev pub chain-faults : List ℕ → List Check
+  abbrev pub chain-faults : List ℕ → List Fault
   chain-faults t = joined (row-faults t) (counting 0 (chain-length t))
 
   -- All faults, in the order in which they are told: the head's, the rows', and a chain without a rule.
-  abbrev pub table-faults : List ℕ → List Check
-  table-faults t = head-faults t ++ (chain-faults t ++ (check (not (ruled t)) 11 0 ∷ []))
+  abbrev pub table-faults : List ℕ → List Fault
+  table-faults t = head-faults t ++ (chain-faults t ++ (fault (not (ruled t)) 11 0 ∷ []))
 
   -- The refusal of a table: that of its first fault. A sound table has none.
   unfoldable pub table-refusal : List ℕ → Option Refusal

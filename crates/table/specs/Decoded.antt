@@ -16,7 +16,8 @@ use Rattle.table.specs.declared.fault.RowFault.{RowFault}
 use Rattle.table.specs.declared.fault.TableFault.{TableFault}
 use Rattle.table.specs.Chain.{head-faults, row-faults, chain-faults, table-refusal, chain-length, rows-before, numbers-before, rows-in, numbers-in}
 use Rattle.table.specs.Layout.{rows-told, first-told}
-use Rattle.table.specs.Refusals.{of-row, of-table, first-fault}
+use Rattle.refusal.specs.Faults.{first-fault}
+use Rattle.table.specs.Refusals.{of-row, of-table}
 
 -- p is the plan of the table t: the rows of its chain with their numbers, and nothing else
 pub record Plan-of (t : List ℕ) (p : Plan) : Type 0 where

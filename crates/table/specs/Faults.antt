@@ -16,14 +16,15 @@ use Rattle.mitl.specs.Rows.{row-at, is-rule}
 use Rattle.mitl.specs.Windows.{some-below, sound-window}
 use Rattle.plan.specs.Places.{place-among}
 use Rattle.plan.specs.Sound.{is-a-rule}
-use Rattle.table.specs.declared.fault.Refusal.{Refusal}
+use Rattle.refusal.specs.declared.Refusal.{Refusal}
 use Rattle.table.specs.declared.fault.RowFault.{RowFault}
 use Rattle.table.specs.declared.row.Fields.{Fields}
 use Rattle.table.specs.declared.row.Letter.{Letter}
 use Rattle.table.specs.declared.row.Letter.the-variants.{P, N, A, O, D, B, S, R}
 use Rattle.table.specs.declared.row.Step.{Step}
 use Rattle.table.specs.Letters.{left-used, right-used, window-used, rule-letter, well-filled}
-use Rattle.table.specs.Refusals.{Check, check, of-row}
+use Rattle.refusal.specs.Faults.{Fault, fault}
+use Rattle.table.specs.Refusals.{of-row}
 
 -- ns are the numbers of the rows before, along the chain, and rs what they say
 
@@ -46,18 +47,18 @@ rule-used rs n = some-below (λ k. is-rule n (row-at rs k)) (length rs)
 
 module _ (admits : ℕ → ℕ → Bool) (told : ℕ) (ns : List ℕ) (rs : List Row) (r : ℕ) where
   -- the faults of row r with a known letter, in the order in which they are told; `told` is the table's row count
-  abbrev pub faults-as : Letter → Fields → List Check
+  abbrev pub faults-as : Letter → Fields → List Fault
   faults-as c f =
-      check (not (well-filled c f)) 5 r
-      ∷ (check (not (operands-right ns rs c f)) 6 r
-      ∷ (check (window-used c && not (sound-window (f .a) (f .b))) 7 r
-      ∷ (check (rule-letter c && rule-used rs (f .number)) 8 r
-      ∷ (check (window-used c && not (admits (f .a) (f .b))) 9 r
-      ∷ (check (ltb told (f .next) || (eqb (f .next) r || isSome (place-among ns (f .next)))) 10 r
+      fault (not (well-filled c f)) 5 r
+      ∷ (fault (not (operands-right ns rs c f)) 6 r
+      ∷ (fault (window-used c && not (sound-window (f .a) (f .b))) 7 r
+      ∷ (fault (rule-letter c && rule-used rs (f .number)) 8 r
+      ∷ (fault (window-used c && not (admits (f .a) (f .b))) 9 r
+      ∷ (fault (ltb told (f .next) || (eqb (f .next) r || isSome (place-among ns (f .next)))) 10 r
       ∷ [])))))
 
-  abbrev pub faults-of : Option Letter → Fields → List Check
-  faults-of None f = check true 4 r ∷ []
+  abbrev pub faults-of : Option Letter → Fields → List Fault
+  faults-of None f = fault true 4 r ∷ []
   faults-of (Some c) f = faults-as c f
 
 -- the place of row n before
@@ -84,15 +85,15 @@ row-of ns (Some c) f = row-as ns c f
 
 -- the reply to one row: its first fault, or what it says where it has none
 abbrev pub Judged : Option Refusal → Row → Result Row RowFault → Type 0
-Judged fault row (Ok x) = (fault ≡ None) × (x ≡ row)
-Judged fault row (Err e) = fault ≡ Some (of-row e)
+Judged found row (Ok x) = (found ≡ None) × (x ≡ row)
+Judged found row (Err e) = found ≡ Some (of-row e)
 
 -- the same for its operands alone
 abbrev pub Meant : Bool → Row → Option Row → Type 0
 Meant right row None = right ≡ false
 Meant right row (Some x) = (right ≡ true) × (x ≡ row)
 
--- the reply to one row of a table: its first fault, or what it says and the number of the next row
+-- the reply to one row of a table: its first found, or what it says and the number of the next row
 abbrev pub Stepped : Option Refusal → Row → ℕ → Result Step RowFault → Type 0
-Stepped fault row n (Ok s) = (fault ≡ None) × (s .row ≡ row) × (s .next ≡ n)
-Stepped fault row n (Err e) = fault ≡ Some (of-row e)
+Stepped found row n (Ok s) = (found ≡ None) × (s .row ≡ row) × (s .next ≡ n)
+Stepped found row n (Err e) = found ≡ Some (of-row e)

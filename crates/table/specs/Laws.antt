@@ -8,12 +8,13 @@ use Rattle.std.specs.declared.result.Result.{Result}
 use Rattle.std.specs.declared.result.Result.the-variants.{Ok, Err}
 use Rattle.plan.specs.declared.plan.Plan.{Plan}
 use Rattle.plan.specs.Sound.{is-a-rule}
-use Rattle.table.specs.declared.fault.Refusal.{Refusal}
+use Rattle.refusal.specs.declared.Refusal.{Refusal}
 use Rattle.table.specs.declared.fault.TableFault.{TableFault}
 use Rattle.table.specs.Chain.{on-chain, row-in, chain-length, head-faults, row-faults, table-refusal}
 use Rattle.table.specs.Decoded.{Decoded}
 use Rattle.table.specs.Layout.{rows-told}
-use Rattle.table.specs.Refusals.{first-fault, of-table, refusal-at}
+use Rattle.refusal.specs.Faults.{first-fault, refusal}
+use Rattle.table.specs.Refusals.{of-table}
 
 module _ (admits : ℕ → ℕ → Bool) (t : List ℕ) where
   -- the first n rows of the chain have no fault
@@ -30,7 +31,7 @@ module _ (admits : ℕ → ℕ → Bool) (t : List ℕ) where
     pub row : first-fault (head-faults t) ≡ None → (i : ℕ) → Clear i → Goes-on i
         → (r : Refusal) → first-fault (row-faults admits t i) ≡ Some r → table-refusal admits t ≡ Some r
     pub no-rule : first-fault (head-faults t) ≡ None → (i : ℕ) → Clear (suc i) → Goes-on i → on-chain t (suc i) ≡ 0
-        → ((k : ℕ) → k ≤ i → is-a-rule (row-in t k) ≡ false) → table-refusal admits t ≡ Some (refusal-at 11 0)
+        → ((k : ℕ) → k ≤ i → is-a-rule (row-in t k) ≡ false) → table-refusal admits t ≡ Some (refusal 11 0)
     pub sound : first-fault (head-faults t) ≡ None → (i : ℕ) → Clear (suc i) → Goes-on i → on-chain t (suc i) ≡ 0
         → (k : ℕ) → k ≤ i → is-a-rule (row-in t k) ≡ true → (table-refusal admits t ≡ None) × (chain-length t ≡ suc i)
 

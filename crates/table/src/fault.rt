@@ -2,13 +2,7 @@
 ghost use mathlib.Core.Path.{_≡_};
 ghost use Rattle.table.specs.Refusals.{of-row, of-table};
 ghost use Rattle.table.specs.declared.fault.TableFault.the-variants.{Row};
-
-// A refusal's number, and where the fault is.
-#[derive(Clone, Copy)]
-pub struct Refusal {
-    pub number: u8,
-    pub place: u32,
-}
+use refusal::Refusal;
 
 // A fault of one row, with the row's number in its table.
 #[derive(Clone, Copy)]
@@ -65,10 +59,7 @@ impl RowFault {
             RowFault::Limit(row) => (9, row),
             RowFault::Next(row) => (10, row),
         };
-        Refusal {
-            number,
-            place: u32::from(row),
-        }
+        Refusal::new(number, u32::from(row))
     }
 }
 
@@ -84,6 +75,6 @@ impl TableFault {
             TableFault::Row(fault) => return fault.refusal(),
             TableFault::NoRule => 11,
         };
-        Refusal { number, place: 0 }
+        Refusal::new(number, 0)
     }
 }

@@ -11,7 +11,7 @@ ghost use Rattle.mitl.specs.Windows.{sound-window};
 ghost use Rattle.plan.specs.Places.{place-among};
 ghost use Rattle.table.specs.Faults.{operand-place, operands-right, rule-used, row-with, row-as, faults-as, faults-of, row-of, Judged, Meant, Stepped};
 ghost use Rattle.table.specs.Layout.{fields-from, fields-of, row-start};
-ghost use Rattle.table.specs.Refusals.{first-fault};
+ghost use Rattle.refusal.specs.Faults.{first-fault};
 ghost use Rattle.table.specs.Letters.{letter-from, left-used, right-used, window-used, rule-letter, number-end, well-filled};
 use crate::fault::RowFault;
 use mitl::Row;

@@ -5,7 +5,8 @@ use Rattle.std.specs.declared.option.Option.the-variants.{Some, None}
 use Rattle.std.specs.declared.result.Result.the-variants.{Ok, Err}
 use Rattle.std.proofs.shelf.Results.{err-from-errBy}
 use Rattle.table.specs.Chain.{row-faults}
-use Rattle.table.specs.Refusals.{first-fault, of-row}
+use Rattle.refusal.specs.Faults.{first-fault}
+use Rattle.table.specs.Refusals.{of-row}
 use Rattle.table.proofs.Chains.{Headed, headed}
 use Rattle.table.proofs.Walking.{room, ready, moved, failed, more, clean, drafted}
 use Rattle.table.proofs.walk.Needs as need
