@@ -1,9 +1,9 @@
 -- Cleared memories mean the empty history. Assumes nothing.
-use mathlib.Core.Path.{_≡_, refl, sym, ap, subst, _∙_}
+use mathlib.Core.Path.{_≡_, ap, _∙_}
 use mathlib.Core.List.{List, []}
-use Prim.Native.Nat.{ℕ, min, _<_, _≤_}
+use Prim.Native.Nat.{ℕ, min}
 use native.Mathlib.Omega.{arith}
-use lib.ListN.{getD, length}
+use lib.ListN.{length}
 use Rattle.mitl.specs.declared.Row.{Row}
 use Rattle.mitl.specs.Memory.{Meaning, cleared}
 use Rattle.mitl.specs.Rows.{timed-rows, timed-before}

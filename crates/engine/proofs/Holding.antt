@@ -1,27 +1,26 @@
 -- Ticks during which no reading changes. Assumes nothing.
 use mathlib.Core.Path.{_≡_, refl, sym, ap, ap₂, subst, _∙_}
-use mathlib.Core.Bool.{Bool, true, false, not, cond, _&&_, _||_, false≢true}
-use mathlib.Core.List.{List, [], _∷_, _++_, map}
-use Prim.Native.Nat.{ℕ, zero, suc, _+_, _-_, _<_, _≤_}
+use mathlib.Core.Bool.{Bool, true, false, not, _&&_}
+use mathlib.Core.List.{List, _++_}
+use Prim.Native.Nat.{ℕ, _+_, _-_, _<_, _≤_}
 use native.Mathlib.Omega.{arith}
 use lib.Dec.{eqb}
-use lib.ListN.{getD, length, replicate}
+use lib.ListN.{length, replicate}
 use Rattle.std.proofs.shelf.Lists.{append-nil, replicate-append-replicate}
-use Rattle.std.proofs.shelf.Tests.{eqb-false}
+use Rattle.std.proofs.shelf.Tests.{eqb-true, eqb-false}
 use Rattle.std.specs.declared.option.Option.{Option}
 use Rattle.mitl.specs.declared.Row.{Row}
 use Rattle.mitl.specs.declared.Row.the-variants.{Input, Not, And, Or, Once, Always, Since, Rule}
 use Rattle.mitl.specs.Formulas.{Formula}
 use Rattle.mitl.specs.Memory.{Meaning, ahead}
 use Rattle.mitl.specs.Outlook.{outlook, looked}
-use Rattle.mitl.specs.Rows.{Chained, row-at, is-timed, timed-before, timed-rows, formula-at, formula-of, formulas, read, verdict}
+use Rattle.mitl.specs.Rows.{Chained, row-at, is-timed, timed-before, formula-at, formula-of, formulas, read, verdict}
 use Rattle.mitl.specs.Blocks.{row-ahead, advanced, Proper}
 use Rattle.mitl.proofs.Blocks.{block-readings, looked-after}
 use Rattle.mitl.proofs.Rows.{formulas-at}
 use Rattle.engine.specs.Means.{Means}
-use Rattle.engine.specs.Due.{coming}
 use Rattle.engine.specs.Steps.{meant, reading, seen, Before, Foreseen, Advanced}
-use Rattle.engine.specs.Held.{Over, Held, Whole, coming-first}
+use Rattle.engine.specs.Held.{Held, Whole, coming-first}
 use Rattle.engine.proofs.Meant.{meant-by}
 use Rattle.engine.proofs.Plans.{timed-past}
 use Rattle.engine.proofs.Verdicts.{verdict-is, coming-alike, coming-more, longer}
@@ -97,6 +96,9 @@ module _ {X : Type 0} (meaning : X → Meaning) (rows : List Row) (w z : ℕ) wh
           alike = coming-more rows h w n m ∙ ap₂ _++_ (first .alike) (second .alike ∙ ap (replicate m) is) ∙ replicate-append-replicate n m z;
         };
   }
+
+pub same-word : (x z : ℕ) → true ≡ eqb x z → x ≡ z
+same-word x z e = eqb-true x z (sym e)
 
 -- n ticks under the verdict word z, and m more under x, which is z
 module _ {X : Type 0} (meaning : X → Meaning) (rows : List Row) (w most : ℕ) (xs ys zs : List X) (z n x m : ℕ)

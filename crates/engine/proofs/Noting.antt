@@ -1,8 +1,8 @@
 -- Longest runs written one after another. Assumes nothing.
 use mathlib.Core.Path.{_≡_, refl, sym, ap, ap₂, subst, _∙_}
-use mathlib.Core.Bool.{Bool, true, false, not, cond, _&&_, _||_, false≢true}
+use mathlib.Core.Bool.{true, false, not, _&&_, _||_, false≢true}
 use mathlib.Core.List.{List, [], _∷_, _++_, map}
-use mathlib.Core.Logic.{_⊎_, inl, inr}
+use mathlib.Core.Logic.{inl, inr}
 use Prim.Native.Nat.{ℕ, zero, suc, _+_, _-_, _<_, _≤_}
 use native.Mathlib.Nat.{not-suc-le-zero}
 use native.Mathlib.Omega.{arith}
@@ -17,10 +17,9 @@ use Rattle.mitl.specs.Memory.{Meaning}
 use Rattle.mitl.specs.Rows.{timed-rows}
 use Rattle.mitl.specs.Runs.{Run, expanded, Longest, runs, ticks}
 use Rattle.mitl.proofs.Runs.{Ends-off, longest-push, expanded-push, length-expanded, written-all, written-full}
-use Rattle.engine.specs.declared.Fed.{Fed}
 use Rattle.engine.specs.Means.{Means}
 use Rattle.engine.specs.Due.{coming, due, covered}
-use Rattle.engine.specs.Held.{coming-first, Held, Whole}
+use Rattle.engine.specs.Held.{coming-first, Whole}
 use Rattle.engine.specs.Judged.{note, Judged, idle}
 use Rattle.engine.proofs.Verdicts.{coming-more, coming-at-once, coming-length, longer}
 

@@ -1,14 +1,13 @@
 -- One bit of a word, and words by their bits. Assumes nothing.
-use mathlib.Core.Path.{_≡_, refl, sym, ap, ap₂, subst, _∙_}
-use mathlib.Core.Bool.{Bool, true, false, cond, _||_}
+use mathlib.Core.Path.{_≡_, refl, sym, ap, ap₂, _∙_}
+use mathlib.Core.Bool.{_||_}
 use mathlib.Core.Logic.{_⊎_, inl, inr, ⊎-elim}
-use Prim.Native.Nat.{ℕ, zero, suc, _+_, _-_, _*_, _/_, _%_, _^_, _<_, _≤_}
-use native.Mathlib.Nat.{div-add-mod}
+use Prim.Native.Nat.{ℕ, zero, suc, _+_, _-_, _*_, _/_, _%_, _^_, _<_}
 use native.Mathlib.Omega.{arith}
 use lib.Dec.{eqb}
-use lib.Bits.{bitOr, bitAnd}
-use Rattle.std.proofs.shelf.Bits.{pow-pos, pow-add, shl-shr, shr-shr, or-shr, or-mod, one-shl, pow-below, shr-high}
-use Rattle.std.proofs.shelf.Tests.{cases-order, eq-eqb, ne-eqb, eqb-true, eqb-false}
+use lib.Bits.{bitOr}
+use Rattle.std.proofs.shelf.Bits.{pow-add, shl-shr, shr-shr, or-shr, or-mod, pow-below, shr-high}
+use Rattle.std.proofs.shelf.Tests.{cases-order, eq-eqb, ne-eqb}
 use Rattle.std.proofs.shelf.Ways.{tells}
 use Rattle.mitl.specs.Formulas.{bit}
 

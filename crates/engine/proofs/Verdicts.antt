@@ -1,17 +1,17 @@
 -- The verdict words of ticks ahead. Assumes nothing.
-use mathlib.Core.Path.{_≡_, refl, sym, ap, ap₂, subst, fun-ext, _∙_}
-use mathlib.Core.Bool.{Bool, true, false, cond, _&&_, _||_}
+use mathlib.Core.Path.{_≡_, refl, sym, ap, ap₂, fun-ext, _∙_}
+use mathlib.Core.Bool.{Bool, _&&_}
 use mathlib.Core.List.{List, [], _∷_, _++_, map}
-use mathlib.Core.Logic.{_⊎_, inl, inr}
-use Prim.Native.Nat.{ℕ, zero, suc, _+_, _-_, _<_, _≤_}
+use mathlib.Core.Logic.{inl, inr}
+use Prim.Native.Nat.{ℕ, suc, _+_, _-_, _<_, _≤_}
 use native.Mathlib.Omega.{arith}
 use lib.ListN.{getD, length, replicate, length-append, length-replicate}
 use Rattle.std.specs.Iters.{counting}
 use Rattle.std.proofs.shelf.Counted.{length-map-counting, getD-map-counting}
-use Rattle.std.proofs.shelf.Lists.{append-assoc, append-nil, getD-append-left, getD-append-right, getD-replicate, ext-getD, replicate-append-replicate}
+use Rattle.std.proofs.shelf.Lists.{append-assoc, getD-append-left, getD-append-right, getD-replicate, ext-getD, replicate-append-replicate}
 use Rattle.std.proofs.shelf.Tests.{cases-lt}
 use Rattle.mitl.specs.declared.Row.{Row}
-use Rattle.mitl.specs.Formulas.{bit, sat}
+use Rattle.mitl.specs.Formulas.{bit}
 use Rattle.mitl.specs.Rows.{row-at, formula-at, formulas, read, is-rule, rule, verdict, word}
 use Rattle.mitl.specs.Windows.{some-below}
 use Rattle.mitl.proofs.Causal.{sat-append}

@@ -1,7 +1,7 @@
 //! Ticks taken: what the memories of a car are told.
 ghost use mathlib.Core.Path.{_≡_};
-ghost use mathlib.Core.Bool.{Bool, true, false};
-ghost use Prim.Native.Nat.{ℕ, _<_, _≤_};
+ghost use mathlib.Core.Bool.{true, false};
+ghost use Prim.Native.Nat.{_<_, _≤_};
 ghost use lib.ListN.{length};
 ghost use Rattle.mitl.specs.Blocks.{advanced};
 ghost use Rattle.mitl.specs.Memory.{cleared};
@@ -10,7 +10,7 @@ ghost use Rattle.plan.specs.Rows.{rows-of};
 ghost use Rattle.engine.specs.Means.{Changed};
 ghost use Rattle.engine.specs.Steps.{Advanced, Readable, Told, reading as reading-of};
 use crate::memory::take_always;
-use crate::memory::take_once;
+use crate::memory::take_at;
 use crate::memory::take_since;
 use crate::reading::past;
 use mitl::Row;
@@ -24,7 +24,7 @@ fn advance_row<M: WindowMemory>(row: Row, vs: &[bool; 64], n: u32, part: &mut [M
     ensures still { λ _. ⌜ (is-timed row ≡ false → now (part .exit) ≡ now (part .entry)) ⌝ }
 {
     match row {
-        Row::Once { left, .. } => take_once(part, at, vs[left as usize], n),
+        Row::Once { left, .. } => take_at(part, at, vs[left as usize], n),
         Row::Always { left, .. } => take_always(part, at, vs[left as usize], n),
         Row::Since { left, right, .. } => {
             take_since(part, at, vs[left as usize], vs[right as usize], n)

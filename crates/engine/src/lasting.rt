@@ -1,6 +1,6 @@
 //! For how long readings last: `None` is for ever.
 ghost use mathlib.Core.Path.{_≡_};
-ghost use mathlib.Core.Bool.{Bool, not};
+ghost use mathlib.Core.Bool.{not};
 ghost use Rattle.engine.specs.Steps.{shorter, capped};
 
 // The shorter of two lengths.

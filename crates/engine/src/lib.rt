@@ -1,7 +1,7 @@
 //! One car, any number of ticks: its memories are told an input word that lasts, and the longest runs of its verdict
 //! words are written as notes.
 ghost use mathlib.Core.Path.{_≡_};
-ghost use mathlib.Core.Bool.{Bool, true};
+ghost use mathlib.Core.Bool.{true};
 ghost use mathlib.Core.List.{List, []};
 ghost use Prim.Native.Nat.{ℕ};
 ghost use Rattle.mitl.specs.Memory.{cleared};

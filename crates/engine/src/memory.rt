@@ -1,28 +1,19 @@
 //! One memory of a car's part: copied out, told and stored back.
-ghost use mathlib.Core.Path.{_≡_};
-ghost use mathlib.Core.Bool.{Bool, true, false, not, cond, _&&_};
-ghost use Prim.Native.Nat.{ℕ, _<_};
-ghost use lib.ListN.{length, getD};
-ghost use Rattle.mitl.specs.Memory.{Meaning, cleared, took, ahead, Lasts};
+ghost use mathlib.Core.Bool.{false, not, cond, _&&_};
+ghost use Prim.Native.Nat.{_<_};
+ghost use lib.ListN.{length};
+ghost use Rattle.mitl.specs.Memory.{cleared, took, ahead, Lasts};
 ghost use Rattle.engine.specs.Steps.{meant, Told};
 use crate::lasting::turned;
 use window::WindowMemory;
 
-// What the memory at this place runs on with.
+// The verdict of the memory at this place, and for how long it lasts, while its operand keeps this value.
 pub fn run_at<M: WindowMemory>(part: &[M], at: usize, operand: bool) -> (bool, Option<u32>)
     requires { ⌜ at < length (now part) ⌝ }
     ensures { λ r. ⌜ Lasts (ahead (meant meaning (now (part .entry)) at .a) operand (meant meaning (now (part .entry)) at .mark)) (r .0) (r .1) ⌝ }
 {
     let m = part[at];
     m.run(operand)
-}
-
-// D runs on by the left reading.
-pub fn run_once<M: WindowMemory>(part: &[M], at: usize, left: bool) -> (bool, Option<u32>)
-    requires { ⌜ at < length (now part) ⌝ }
-    ensures { λ r. ⌜ Lasts (ahead (meant meaning (now (part .entry)) at .a) left (meant meaning (now (part .entry)) at .mark)) (r .0) (r .1) ⌝ }
-{
-    run_at(part, at, left)
 }
 
 // B runs on by the opposite of the left reading, turned round.
@@ -68,14 +59,6 @@ pub fn clear_at<M: WindowMemory>(part: &mut [M], at: usize)
     let mut m = part[at];
     m.clear();
     part[at] = m;
-}
-
-// D takes the left reading.
-pub fn take_once<M: WindowMemory>(part: &mut [M], at: usize, left: bool, n: u32)
-    requires { ⌜ at < length (now part) ⌝ }
-    ensures { λ _. ⌜ Told meaning (took left n) at (now (part .entry)) (now (part .exit)) ⌝ }
-{
-    take_at(part, at, left, n);
 }
 
 // B takes the opposite of the left reading.

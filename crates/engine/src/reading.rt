@@ -1,7 +1,7 @@
 //! The readings of the next tick, and for how long they last.
 ghost use mathlib.Core.Path.{_≡_};
-ghost use mathlib.Core.Bool.{Bool, true, false, cond, _&&_, _||_};
-ghost use Prim.Native.Nat.{ℕ, _+_, _<_, _≤_};
+ghost use mathlib.Core.Bool.{true, false, cond, _&&_, _||_};
+ghost use Prim.Native.Nat.{_+_, _<_, _≤_};
 ghost use lib.ListN.{length};
 ghost use Rattle.mitl.specs.Memory.{Lasts};
 ghost use Rattle.mitl.specs.Rows.{is-timed, timed-rows};
@@ -9,7 +9,7 @@ ghost use Rattle.plan.specs.Rows.{rows-of};
 ghost use Rattle.engine.specs.Steps.{Foreseen, Readable, meant, reading as reading-of, seen};
 use crate::lasting::shorter_of;
 use crate::memory::run_always;
-use crate::memory::run_once;
+use crate::memory::run_at;
 use crate::memory::run_since;
 use crate::word::has;
 use crate::word::with_row;
@@ -33,7 +33,7 @@ fn settle<M: WindowMemory>(
         Row::Not { left } => (!vs[left as usize], None),
         Row::And { left, right } => (vs[left as usize] && vs[right as usize], None),
         Row::Or { left, right } => (vs[left as usize] || vs[right as usize], None),
-        Row::Once { left, .. } => run_once(part, at, vs[left as usize]),
+        Row::Once { left, .. } => run_at(part, at, vs[left as usize]),
         Row::Always { left, .. } => run_always(part, at, vs[left as usize]),
         Row::Since { left, right, .. } => {
             run_since(part, at, vs[left as usize], vs[right as usize])

@@ -1,4 +1,4 @@
-use mathlib.Core.Path.{_≡_, subst}
+use mathlib.Core.Path.{subst}
 use Rattle.mitl.specs.Memory.{cleared}
 use Rattle.mitl.specs.Rows.{timed-rows}
 use Rattle.plan.specs.Rows.{rows-of}

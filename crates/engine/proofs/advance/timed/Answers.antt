@@ -1,6 +1,6 @@
-use mathlib.Core.Path.{_≡_, ap, _∙_}
+use mathlib.Core.Path.{_∙_}
 use native.Mathlib.Omega.{arith}
-use Rattle.mitl.specs.Rows.{row-at, timed-before}
+use Rattle.mitl.specs.Rows.{row-at}
 use Rattle.plan.specs.Rows.{rows-of}
 use Rattle.engine.proofs.Plans.{used-most, used-row, timed-most, timed-step, timed-all}
 use Rattle.engine.proofs.advance.timed.Needs as need

@@ -1,8 +1,6 @@
-use mathlib.Core.Path.{_≡_, sym, subst}
-use Prim.Native.Nat.{ℕ, _<_, _≤_}
+use Prim.Native.Nat.{_<_}
 use native.Mathlib.Omega.{arith}
 use Rattle.plan.specs.Rows.{rows-of}
-use Rattle.engine.specs.Steps.{Before}
 use Rattle.engine.proofs.Lengths.{capped-positive, capped-most, capped-before}
 use Rattle.engine.proofs.Plans.{used-chained, used-proper}
 use Rattle.engine.proofs.Holding.{held-step}

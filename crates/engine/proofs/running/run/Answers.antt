@@ -1,9 +1,8 @@
-use mathlib.Core.Path.{refl, sym}
+use mathlib.Core.Path.{refl}
 use native.Mathlib.Omega.{arith}
-use Rattle.std.proofs.shelf.Tests.{eqb-true}
 use Rattle.plan.specs.Rows.{rows-of}
 use Rattle.engine.proofs.Plans.{used-chained, used-proper}
-use Rattle.engine.proofs.Holding.{held-none, held-more, whole-all, whole-ended}
+use Rattle.engine.proofs.Holding.{held-none, held-more, same-word, whole-all, whole-ended}
 use Rattle.engine.proofs.running.run.Needs as need
 
 pub loop-n-holds : need.loop-n-holds
@@ -15,7 +14,7 @@ loop-n-again g c =
     let inv = c .loop-n .inv in (
       omega (arith, inv .0, c .hold-n .kept .part),
       omega arith,
-      eqb-true (c .next-step-in-loop-n .result .word) (c .next-step .result .word) (sym (c .if-not-goes-on .ensures tt)),
+      same-word (c .next-step-in-loop-n .result .word) (c .next-step .result .word) (c .if-not-goes-on .ensures tt),
       c .next-step-in-loop-n .ensures,
       held-more (g .M·WindowMemory .meaning) (rows-of (c .args .plan .now)) (c .args .word) (c .next-step .result .word) (c .args .part .now) (c .loop-n .part) (c .hold-n .last .part) (c .loop-n .n) (c .hold-n .result) (c .loop-n .step .word)
           (inv .4) (inv .2) (c .hold-n .ensures .held),
