@@ -45,6 +45,8 @@ pub record Moved-at (t : CarTable) (i letter : ℕ) (t′ : CarTable) (r : Resul
   pub others : (k : ℕ) → (k ≡ i → ⊥) → getD (t′ .slots) k no-slot ≡ getD (t .slots) k no-slot
   pub count-same : t′ .count ≡ t .count
   pub refused : isOk r ≡ false → t′ ≡ t
+  -- inputs change no state
+  pub inputs : is-I letter ≡ true → t′ ≡ t
 
 -- the refusal of a record for a car that stands at this place, or at none
 abbrev pub record-refusal : CarTable → Car → ℕ → Option ℕ → Option Refusal
