@@ -3,11 +3,11 @@ use mathlib.Core.Path.{_≡_}
 use mathlib.Core.Bool.{Bool, true, false, not, _&&_}
 use mathlib.Core.List.{List}
 use Prim.Native.Nat.{ℕ, _<_}
-use lib.Dec.{ltb}
+use lib.Dec.{leb, ltb}
 use Rattle.mitl.specs.declared.Row.{Row}
 use Rattle.mitl.specs.declared.Row.the-variants.{Input, Not, And, Or, Once, Always, Since, Rule}
 use Rattle.mitl.specs.Rows.{row-at}
-use Rattle.mitl.specs.Windows.{some-below, sound-window}
+use Rattle.mitl.specs.Windows.{some-below, all-below, sound-window}
 
 abbrev pub is-a-rule : Row → Bool
 is-a-rule (Input i) = false
@@ -39,3 +39,8 @@ Each-ok rows count = (k : ℕ) → k < count → row-ok rows k (row-at rows k) �
 
 abbrev pub Ruled : List Row → ℕ → Type 0
 Ruled rows count = some-below (λ k. is-a-rule (row-at rows k)) count ≡ true
+
+-- rows of which the first `count` may be a plan
+abbrev pub sound-rows : List Row → ℕ → Bool
+sound-rows rows count =
+    leb count 64 && (all-below (λ k. row-ok rows k (row-at rows k)) count && some-below (λ k. is-a-rule (row-at rows k)) count)

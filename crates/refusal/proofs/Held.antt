@@ -1,14 +1,15 @@
 -- Faults and the refusal that they come to. Assumes nothing.
-use mathlib.Core.Path.{_≡_, refl, _∙_}
+use mathlib.Core.Path.{_≡_, refl, ap, _∙_}
 use mathlib.Core.Bool.{Bool, true, false, cond}
-use mathlib.Core.List.{List, [], _∷_, _++_}
+use mathlib.Core.List.{List, [], _∷_, _++_, map}
 use mathlib.Core.Logic.{_⊎_, inl, inr, ⊎-elim, _↔_}
-use Prim.Native.Nat.{ℕ}
+use Prim.Native.Nat.{ℕ, zero, suc, _+_, _<_, _≤_}
 use native.Mathlib.Omega.{arith}
+use Rattle.std.specs.Iters.{counting}
 use Rattle.std.specs.Options.{isSome}
 use Rattle.std.specs.declared.option.Option.{Option}
 use Rattle.std.specs.declared.option.Option.the-variants.{Some, None}
-use Rattle.std.proofs.shelf.Tests.{both-ways, cond-false}
+use Rattle.std.proofs.shelf.Tests.{both-ways, cond-true, cond-false, cases-eq}
 use Rattle.refusal.specs.declared.Refusal.{Refusal}
 use Rattle.refusal.specs.Faults.{Fault, first-fault, Some-held, One-held}
 
@@ -38,3 +39,19 @@ first-after [] gs e = refl
 first-after (f ∷ fs) gs e =
     let off = none-parts f fs e in
     cond-false (f .held) (Some (f .answer)) (first-fault (fs ++ gs)) (off .0) ∙ first-after fs gs (off .1)
+
+-- Faults that are numbered from a on: none of them holds, or the one numbered i is the first.
+pub none-counted : (F : ℕ → Fault) (a n : ℕ) → ((i : ℕ) → a ≤ i → i < a + n → F i .held ≡ false) → first-fault (map F (counting a n)) ≡ None
+none-counted F a zero off = refl
+none-counted F a (suc n) off =
+    none-from (F a) (map F (counting (a + 1) n)) (off a (omega arith) (omega arith)) (none-counted F (a + 1) n (λ i low high. off i (omega arith) (omega arith)))
+
+pub first-counted : (F : ℕ → Fault) (a n i : ℕ) → a ≤ i → i < a + n → ((j : ℕ) → a ≤ j → j < i → F j .held ≡ false) → F i .held ≡ true
+    → first-fault (map F (counting a n)) ≡ Some (F i .answer)
+first-counted F a zero i low high off on = absurd (omega arith)
+first-counted F a (suc n) i low high off on =
+    elim (cases-eq a i) [
+      | inl is ↦ cond-true (F a .held) (Some (F a .answer)) (first-fault (map F (counting (a + 1) n))) (ap (λ k. F k .held) is ∙ on) ∙ ap (λ k. Some (F k .answer)) is
+      | inr not ↦ cond-false (F a .held) (Some (F a .answer)) (first-fault (map F (counting (a + 1) n))) (off a (omega arith) (omega arith))
+          ∙ first-counted F (a + 1) n i (omega arith) (omega arith) (λ j l h. off j (omega arith) h) on
+    ]

@@ -1,0 +1,4 @@
+pub mod Book
+pub mod Calls
+pub mod Runs
+pub mod Promise

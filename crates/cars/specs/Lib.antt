@@ -1,0 +1,3 @@
+pub mod Cars
+pub mod Moves
+pub mod Refusals

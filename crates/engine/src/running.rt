@@ -1,0 +1,54 @@
+//! Longest runs of one verdict word.
+ghost use mathlib.Core.Path.{_≡_};
+ghost use Prim.Native.Nat.{_<_, _≤_};
+ghost use lib.Dec.{eqb};
+ghost use lib.ListN.{length};
+ghost use Rattle.mitl.specs.Rows.{timed-rows};
+ghost use Rattle.plan.specs.Rows.{rows-of};
+ghost use Rattle.engine.specs.Steps.{Foreseen, capped};
+ghost use Rattle.engine.specs.Held.{Held, Whole};
+use crate::advance::advance;
+use crate::lasting::capped_at;
+use crate::reading::Step;
+use crate::reading::next;
+use plan::plan::Plan;
+use window::WindowMemory;
+
+// Takes the ticks during which no reading changes, at most so many, and says how many.
+fn hold<M: WindowMemory>(plan: &Plan, word: u32, step: &Step, most: u32, part: &mut [M]) -> u32
+    requires { ⌜ (timed-rows (rows-of (now plan)) ≤ length (now part)) × (0 < most) × Foreseen meaning (rows-of (now plan)) word (now part) (length (rows-of (now plan))) (now step .readings) (now step .word) (now step .lasts) ⌝ }
+    ensures ticks { λ r. ⌜ r ≡ capped (now (step .entry) .lasts) most ⌝ }
+    ensures some { λ r. ⌜ (0 < r) × (r ≤ most) ⌝ }
+    ensures held { λ r. ⌜ Held meaning (rows-of (now (plan .entry))) word (now (part .entry)) (now (part .exit)) (now (step .entry) .word) r ⌝ }
+{
+    let n = capped_at(step.lasts, most);
+    advance(plan, &step.readings, n, part);
+    n
+}
+
+// Whether a run goes on with this step: it has the same verdict word.
+fn goes_on(step: &Step, verdict: u16) -> bool
+    ensures { λ r. ⌜ r ≡ eqb (now (step .entry) .word) verdict ⌝ }
+{
+    step.word == verdict
+}
+
+// Takes the longest run of one verdict word, of at most so many ticks: the word and the ticks.
+pub fn run<M: WindowMemory>(plan: &Plan, word: u32, most: u32, part: &mut [M]) -> (u16, u32)
+    requires { ⌜ (timed-rows (rows-of (now plan)) ≤ length (now part)) × (0 < most) ⌝ }
+    ensures { λ r. ⌜ Whole meaning (rows-of (now (plan .entry))) word most (now (part .entry)) (now (part .exit)) (r .0) (r .1) ⌝ }
+{
+    let mut step = next(plan, word, part);
+    let verdict = step.word;
+    let mut n = 0;
+    loop {
+        n += hold(plan, word, &step, most - n, part);
+        if n >= most {
+            return (verdict, n);
+        }
+        step = next(plan, word, part);
+        if !goes_on(&step, verdict) {
+            return (verdict, n);
+        }
+    }
+}

@@ -1,0 +1,7 @@
+pub mod Firsts
+pub mod Distinct
+pub mod Fine
+pub mod Chains
+pub mod Walking
+pub mod Finish
+pub mod Laws

@@ -1,0 +1,5 @@
+use Rattle.table.proofs.Laws.{tables-told}
+use Rattle.table.proofs.tables_hold.Needs as need
+
+pub returns : need.returns
+returns c = tables-told

@@ -1,0 +1,7 @@
+pub mod Refusals
+pub mod Layout
+pub mod Letters
+pub mod Faults
+pub mod Chain
+pub mod Decoded
+pub mod Laws
