@@ -208,7 +208,7 @@ fn is_the_rule(row: Row, i: u8) -> bool
     }
 }
 
-// Whether the memory kind refuses the window of a row. Limits of other kinds belong here.
+// Whether the memory kind refuses the window of a row: the one place where a kind is asked.
 fn is_refused<A: Admission>(letter: Letter, fields: Fields) -> bool
     ensures { λ r. ⌜ r ≡ (window-used letter && not (A·Admission .admitted (fields .a) (fields .b))) ⌝ }
 {
