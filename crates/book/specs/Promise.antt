@@ -24,6 +24,11 @@ pub record Verdicts-right (k : Book) (c : Car) : Type 0 where
   pub every-part : (q p : ℕ) → 1 ≤ q → p < q * length (k .history c)
       → verdict (scaled-rows q (rows-of-book k)) (parts q (k .history c)) p ≡ getD (k .written c) (p / q) 0
 
+-- what the book says after any list of calls that it answered
+pub record Books-right : Type 0 where
+  pub verdicts : (admitted : ℕ → ℕ → Bool) (room : ℕ) (es : List Event) → Told admitted room empty es → (c : Car) → Verdicts-right (after admitted room empty es) c
+  pub refusals : (admitted : ℕ → ℕ → Bool) (room : ℕ) (es : List Event) → Told admitted room empty es → Refused-when admitted room empty es
+
 -- a Query made now: a made call without notes
 abbrev pub asked : Car → ℕ → ℕ → Answer → Event
 asked c row d x = record { call = query c row d; notes = []; answer = x }

@@ -1,6 +1,5 @@
 pub mod Meant
 pub mod Lengths
-pub mod Ones
 pub mod Plans
 pub mod Foresight
 pub mod Taking

@@ -1,5 +1,5 @@
 -- The verdict words of ticks ahead. Assumes nothing.
-use mathlib.Core.Path.{_≡_, refl, sym, ap, ap₂, fun-ext, _∙_}
+use mathlib.Core.Path.{_≡_, refl, sym, ap, ap₂, _∙_}
 use mathlib.Core.Bool.{Bool, _&&_}
 use mathlib.Core.List.{List, [], _∷_, _++_, map}
 use mathlib.Core.Logic.{inl, inr}
@@ -12,34 +12,21 @@ use Rattle.std.proofs.shelf.Lists.{append-assoc, getD-append-left, getD-append-
 use Rattle.std.proofs.shelf.Tests.{cases-lt}
 use Rattle.mitl.specs.declared.Row.{Row}
 use Rattle.mitl.specs.Formulas.{bit}
-use Rattle.mitl.specs.Rows.{row-at, formula-at, formulas, read, is-rule, rule, verdict, word}
+use Rattle.mitl.specs.Rows.{row-at, read, is-rule, verdict}
 use Rattle.mitl.specs.Windows.{some-below}
-use Rattle.mitl.proofs.Causal.{sat-append}
-use Rattle.mitl.proofs.Words.{bit-word, word-lt}
+use Rattle.mitl.proofs.Causal.{verdict-append}
+use Rattle.mitl.proofs.Rules.{verdict-only}
 use Rattle.engine.specs.Due.{coming}
 use Rattle.engine.specs.Held.{coming-first}
 use Rattle.engine.proofs.Foresight.{some-same}
-use Rattle.engine.proofs.Ones.{same-bits}
-
--- later ticks do not change a verdict
-pub verdict-append : (rows : List Row) (h x : List ℕ) (t : ℕ) → t < length h → verdict rows (h ++ x) t ≡ verdict rows h t
-unfolding verdict
-verdict-append rows h x t lt =
-    ap (λ f. word f 16)
-    (fun-ext (λ i. some-same _ _ (length rows) (λ k _. ap (λ b. is-rule i (row-at rows k) && b) (sat-append h x (formula-at (formulas rows) k) t lt))))
 
 -- a word whose bits are the rules, read as v, is the verdict
 pub verdict-is : (rows : List Row) (h : List ℕ) (t z : ℕ) (v : ℕ → Bool) → z < 65536
     → ((i : ℕ) → bit i z ≡ some-below (λ k. is-rule i (row-at rows k) && v k) (length rows))
     → ((k : ℕ) → k < length rows → read rows h k t ≡ v k)
     → verdict rows h t ≡ z
-unfolding verdict
 verdict-is rows h t z v small bits same =
-    same-bits 16 _ z (word-lt (rule rows h t) 16) small
-    (λ i lt.
-    bit-word (rule rows h t) 16 i lt
-    ∙ some-same _ _ (length rows) (λ k low. ap (λ b. is-rule i (row-at rows k) && b) (same k low))
-    ∙ sym (bits i))
+    sym (verdict-only rows h t z small (λ i lt. bits i ∙ sym (some-same _ _ (length rows) (λ k low. ap (λ b. is-rule i (row-at rows k) && b) (same k low)))))
 
 same-counted : (f g : ℕ → ℕ) (t n : ℕ) → ((u : ℕ) → t ≤ u → u < t + n → f u ≡ g u) → map f (counting t n) ≡ map g (counting t n)
 same-counted f g t n same =

@@ -34,7 +34,7 @@ fn advance_row<M: WindowMemory>(row: Row, vs: &[bool; 64], n: u32, part: &mut [M
 }
 
 // The memories of all rows take n ticks at which the rows have these readings.
-pub fn advance<M: WindowMemory>(plan: &Plan, vs: &[bool; 64], n: u32, part: &mut [M])
+pub(crate) fn advance<M: WindowMemory>(plan: &Plan, vs: &[bool; 64], n: u32, part: &mut [M])
     requires { ⌜ timed-rows (rows-of (now plan)) ≤ length (now part) ⌝ }
     ensures { λ _. ⌜ Advanced meaning (rows-of (now (plan .entry))) (reading-of (now (vs .entry))) n (length (rows-of (now (plan .entry)))) (now (part .entry)) (now (part .exit)) ⌝ }
 {
@@ -47,7 +47,7 @@ pub fn advance<M: WindowMemory>(plan: &Plan, vs: &[bool; 64], n: u32, part: &mut
 }
 
 // How many timed rows the plan has.
-pub fn timed(plan: &Plan) -> usize
+pub(crate) fn timed(plan: &Plan) -> usize
     ensures { λ r. ⌜ r ≡ timed-rows (rows-of (now (plan .entry))) ⌝ }
 {
     let mut at = 0;
@@ -58,7 +58,7 @@ pub fn timed(plan: &Plan) -> usize
 }
 
 // The first memories are cleared.
-pub fn clear_first<M: WindowMemory>(part: &mut [M], end: usize)
+pub(crate) fn clear_first<M: WindowMemory>(part: &mut [M], end: usize)
     requires { ⌜ end ≤ length (now part) ⌝ }
     ensures { λ _. ⌜ Changed meaning cleared end (now (part .entry)) (now (part .exit)) ⌝ }
 {

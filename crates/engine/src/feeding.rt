@@ -16,7 +16,7 @@ use record::Note;
 use window::WindowMemory;
 
 // Whether there is no tick, no place, or a timed row without a memory.
-pub fn is_idle<M: WindowMemory>(plan: &Plan, ticks: u32, part: &[M], notes: &[Note]) -> bool
+pub(crate) fn is_idle<M: WindowMemory>(plan: &Plan, ticks: u32, part: &[M], notes: &[Note]) -> bool
     ensures { λ r. ⌜ r ≡ idle (rows-of (now (plan .entry))) ticks (now (part .entry)) (now (notes .entry)) ⌝ }
 {
     ticks == 0 || notes.len() == 0 || part.len() < timed(plan)
@@ -30,7 +30,7 @@ fn writes_on(left: u32, used: usize, places: usize) -> bool
 }
 
 // Writes the longest runs into the places, from the first on, until the ticks or the places end.
-pub fn fill<M: WindowMemory>(
+pub(crate) fn fill<M: WindowMemory>(
     plan: &Plan,
     car: Car,
     word: u32,

@@ -4,7 +4,7 @@ ghost use mathlib.Core.Bool.{not};
 ghost use Rattle.engine.specs.Steps.{shorter, capped};
 
 // The shorter of two lengths.
-pub fn shorter_of(x: Option<u32>, y: Option<u32>) -> Option<u32>
+pub(crate) fn shorter_of(x: Option<u32>, y: Option<u32>) -> Option<u32>
     ensures { λ r. ⌜ r ≡ shorter x y ⌝ }
 {
     match (x, y) {
@@ -15,7 +15,7 @@ pub fn shorter_of(x: Option<u32>, y: Option<u32>) -> Option<u32>
 }
 
 // A length, and at most what is left.
-pub fn capped_at(lasts: Option<u32>, left: u32) -> u32
+pub(crate) fn capped_at(lasts: Option<u32>, left: u32) -> u32
     ensures { λ r. ⌜ r ≡ capped lasts left ⌝ }
 {
     match lasts {
@@ -25,7 +25,7 @@ pub fn capped_at(lasts: Option<u32>, left: u32) -> u32
 }
 
 // A verdict turned round lasts as long.
-pub fn turned(run: (bool, Option<u32>)) -> (bool, Option<u32>)
+pub(crate) fn turned(run: (bool, Option<u32>)) -> (bool, Option<u32>)
     ensures { λ r. ⌜ (r .0 ≡ not (run .0)) × (r .1 ≡ run .1) ⌝ }
 {
     let (verdict, lasts) = run;

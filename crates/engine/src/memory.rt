@@ -8,7 +8,7 @@ use crate::lasting::turned;
 use window::WindowMemory;
 
 // The verdict of the memory at this place, and for how long it lasts, while its operand keeps this value.
-pub fn run_at<M: WindowMemory>(part: &[M], at: usize, operand: bool) -> (bool, Option<u32>)
+pub(crate) fn run_at<M: WindowMemory>(part: &[M], at: usize, operand: bool) -> (bool, Option<u32>)
     requires { ⌜ at < length (now part) ⌝ }
     ensures { λ r. ⌜ Lasts (ahead (meant meaning (now (part .entry)) at .a) operand (meant meaning (now (part .entry)) at .mark)) (r .0) (r .1) ⌝ }
 {
@@ -17,7 +17,7 @@ pub fn run_at<M: WindowMemory>(part: &[M], at: usize, operand: bool) -> (bool, O
 }
 
 // B runs on by the opposite of the left reading, turned round.
-pub fn run_always<M: WindowMemory>(part: &[M], at: usize, left: bool) -> (bool, Option<u32>)
+pub(crate) fn run_always<M: WindowMemory>(part: &[M], at: usize, left: bool) -> (bool, Option<u32>)
     requires { ⌜ at < length (now part) ⌝ }
     ensures { λ r. ⌜ Lasts (λ d. not (ahead (meant meaning (now (part .entry)) at .a) (not left) (meant meaning (now (part .entry)) at .mark) d)) (r .0) (r .1) ⌝ }
 {
@@ -25,7 +25,7 @@ pub fn run_always<M: WindowMemory>(part: &[M], at: usize, left: bool) -> (bool, 
 }
 
 // S runs on by the right reading; where the left is no its verdict is no for ever.
-pub fn run_since<M: WindowMemory>(
+pub(crate) fn run_since<M: WindowMemory>(
     part: &[M],
     at: usize,
     left: bool,
@@ -42,7 +42,7 @@ pub fn run_since<M: WindowMemory>(
 }
 
 // The memory at this place takes n ticks.
-pub fn take_at<M: WindowMemory>(part: &mut [M], at: usize, operand: bool, n: u32)
+pub(crate) fn take_at<M: WindowMemory>(part: &mut [M], at: usize, operand: bool, n: u32)
     requires { ⌜ at < length (now part) ⌝ }
     ensures { λ _. ⌜ Told meaning (took operand n) at (now (part .entry)) (now (part .exit)) ⌝ }
 {
@@ -52,7 +52,7 @@ pub fn take_at<M: WindowMemory>(part: &mut [M], at: usize, operand: bool, n: u32
 }
 
 // The memory at this place is cleared.
-pub fn clear_at<M: WindowMemory>(part: &mut [M], at: usize)
+pub(crate) fn clear_at<M: WindowMemory>(part: &mut [M], at: usize)
     requires { ⌜ at < length (now part) ⌝ }
     ensures { λ _. ⌜ Told meaning cleared at (now (part .entry)) (now (part .exit)) ⌝ }
 {
@@ -62,7 +62,7 @@ pub fn clear_at<M: WindowMemory>(part: &mut [M], at: usize)
 }
 
 // B takes the opposite of the left reading.
-pub fn take_always<M: WindowMemory>(part: &mut [M], at: usize, left: bool, n: u32)
+pub(crate) fn take_always<M: WindowMemory>(part: &mut [M], at: usize, left: bool, n: u32)
     requires { ⌜ at < length (now part) ⌝ }
     ensures { λ _. ⌜ Told meaning (took (not left) n) at (now (part .entry)) (now (part .exit)) ⌝ }
 {
@@ -70,7 +70,13 @@ pub fn take_always<M: WindowMemory>(part: &mut [M], at: usize, left: bool, n: u3
 }
 
 // S takes the right reading; where the left is no it is cleared and takes nothing.
-pub fn take_since<M: WindowMemory>(part: &mut [M], at: usize, left: bool, right: bool, n: u32)
+pub(crate) fn take_since<M: WindowMemory>(
+    part: &mut [M],
+    at: usize,
+    left: bool,
+    right: bool,
+    n: u32,
+)
     requires { ⌜ at < length (now part) ⌝ }
     ensures { λ _. ⌜ Told meaning (λ m. cond left (took right n m) (cleared m)) at (now (part .entry)) (now (part .exit)) ⌝ }
 {

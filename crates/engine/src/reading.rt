@@ -11,9 +11,9 @@ use crate::lasting::shorter_of;
 use crate::memory::run_always;
 use crate::memory::run_at;
 use crate::memory::run_since;
-use crate::word::has;
 use crate::word::with_row;
 use mitl::Row;
+use mitl::input_bit;
 use plan::plan::Plan;
 use window::WindowMemory;
 
@@ -29,7 +29,7 @@ fn settle<M: WindowMemory>(
     ensures { λ r. ⌜ Lasts (seen row (meant meaning (now (part .entry)) at) (reading-of (now (vs .entry))) word) (r .0) (r .1) ⌝ }
 {
     match row {
-        Row::Input { bit } => (has(word, bit), None),
+        Row::Input { bit } => (input_bit(word, bit), None),
         Row::Not { left } => (!vs[left as usize], None),
         Row::And { left, right } => (vs[left as usize] && vs[right as usize], None),
         Row::Or { left, right } => (vs[left as usize] || vs[right as usize], None),
@@ -43,7 +43,7 @@ fn settle<M: WindowMemory>(
 }
 
 // The place in the part past the memory of this row, if it has one.
-pub fn past(row: Row, at: usize) -> usize
+pub(crate) fn past(row: Row, at: usize) -> usize
     requires { ⌜ at < 64 ⌝ }
     ensures { λ r. ⌜ r ≡ cond (is-timed row) 1 0 + at ⌝ }
 {
@@ -55,13 +55,13 @@ pub fn past(row: Row, at: usize) -> usize
 
 // The readings of all rows at the next tick, the verdict word, and for how long they stay if the input word does.
 #[derive(Clone, Copy)]
-pub struct Step {
+pub(crate) struct Step {
     pub readings: [bool; 64],
     pub word: u16,
     pub lasts: Option<u32>,
 }
 
-pub fn next<M: WindowMemory>(plan: &Plan, word: u32, part: &[M]) -> Step
+pub(crate) fn next<M: WindowMemory>(plan: &Plan, word: u32, part: &[M]) -> Step
     requires { ⌜ timed-rows (rows-of (now plan)) ≤ length (now part) ⌝ }
     ensures { λ r. ⌜ Foreseen meaning (rows-of (now (plan .entry))) word (now (part .entry)) (length (rows-of (now (plan .entry)))) (r .readings) (r .word) (r .lasts) ⌝ }
 {

@@ -34,7 +34,7 @@ fn goes_on(step: &Step, verdict: u16) -> bool
 }
 
 // Takes the longest run of one verdict word, of at most so many ticks: the word and the ticks.
-pub fn run<M: WindowMemory>(plan: &Plan, word: u32, most: u32, part: &mut [M]) -> (u16, u32)
+pub(crate) fn run<M: WindowMemory>(plan: &Plan, word: u32, most: u32, part: &mut [M]) -> (u16, u32)
     requires { ⌜ (timed-rows (rows-of (now plan)) ≤ length (now part)) × (0 < most) ⌝ }
     ensures { λ r. ⌜ Whole meaning (rows-of (now (plan .entry))) word most (now (part .entry)) (now (part .exit)) (r .0) (r .1) ⌝ }
 {

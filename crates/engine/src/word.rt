@@ -1,4 +1,4 @@
-//! Bits of input words and verdict words.
+//! Bits of verdict words.
 ghost use mathlib.Core.Path.{_≡_};
 ghost use mathlib.Core.Bool.{_&&_, _||_};
 ghost use Prim.Native.Nat.{ℕ, _<_};
@@ -8,16 +8,8 @@ ghost use Rattle.mitl.specs.Rows.{is-rule};
 ghost use Rattle.engine.specs.Steps.{Readable};
 use mitl::Row;
 
-// Whether bit i of an input word is on.
-pub fn has(word: u32, i: u8) -> bool
-    requires { ⌜ i < 32 ⌝ }
-    ensures { λ r. ⌜ r ≡ bit i word ⌝ }
-{
-    (word >> i) % 2 == 1
-}
-
 // A verdict word with bit i on too.
-pub fn with(word: u16, i: u8) -> u16
+pub(crate) fn with(word: u16, i: u8) -> u16
     requires { ⌜ i < 16 ⌝ }
     ensures { λ r. ⌜ ((k : ℕ) → bit k r ≡ (eqb k i || bit k word)) ⌝ }
 {
@@ -25,7 +17,7 @@ pub fn with(word: u16, i: u8) -> u16
 }
 
 // A verdict word with the bit of this row, if it is a rule and read as yes.
-pub fn with_row(word: u16, row: Row, yes: bool) -> u16
+pub(crate) fn with_row(word: u16, row: Row, yes: bool) -> u16
     requires { ⌜ Readable row ⌝ }
     ensures { λ r. ⌜ ((k : ℕ) → bit k r ≡ ((is-rule k row && yes) || bit k word)) ⌝ }
 {

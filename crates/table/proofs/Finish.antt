@@ -18,7 +18,8 @@ use Rattle.plan.specs.declared.plan.Plan.{Plan}
 use Rattle.plan.specs.Sound.{is-a-rule, row-ok, sound-rows}
 use Rattle.plan.proofs.Below.{all-from, some-same}
 use Rattle.table.specs.Chain.{on-chain, row-in, fields-at, letter-at, numbers-before, rows-before, chain-length, ruled, head-faults, chain-faults, table-refusal}
-use Rattle.table.specs.Decoded.{Draft-of, Plan-of}
+use Rattle.table.specs.Decoded.{Plan-of}
+use Rattle.table.specs.Steps.{Draft-of}
 use Rattle.table.specs.Faults.{row-of}
 use Rattle.table.specs.Layout.{rows-told}
 use Rattle.refusal.specs.Faults.{Fault, first-fault, refusal, fault}

@@ -19,7 +19,7 @@ use Rattle.plan.specs.Sound.{is-a-rule}
 use Rattle.plan.proofs.Below.{some-from, some-none}
 use Rattle.table.specs.Chain.{on-chain, row-in, fields-at, first-from, chain-length, ruled, head-faults, row-faults, chain-faults, table-refusal}
 use Rattle.table.specs.Decoded.{Decoded, Plan-of}
-use Rattle.table.specs.Laws.{Clear, Goes-on, Told, Chained, Same-reply, Tables-told}
+use Rattle.table.specs.Laws.{Clear, Goes-on, Told, Chain-ends, Same-reply, Tables-told}
 use Rattle.table.specs.Layout.{rows-told}
 use Rattle.refusal.specs.Faults.{Fault, fault, first-fault}
 use Rattle.table.specs.Refusals.{of-table}
@@ -27,6 +27,7 @@ use Rattle.refusal.specs.declared.Refusal.{Refusal}
 use Rattle.table.specs.declared.fault.TableFault.{TableFault}
 use Rattle.table.proofs.Chains.{Headed, headed, low-at, apart-at, room-at, longer, ends-at}
 use Rattle.table.proofs.Finish.{head-refused, row-refused, rule-refused, not-refused}
+use Rattle.table.proofs.Said.{said}
 use Rattle.table.proofs.Firsts.{along-none, along-some, none-parts, none-along, first-before, first-at}
 
 module _ (admits : ℕ → ℕ → Bool) (t : List ℕ) where
@@ -96,7 +97,7 @@ module _ (admits : ℕ → ℕ → Bool) (t : List ℕ) where
               absurd (omega (arith, room-at admits t h 64 (λ k m. clear k (omega arith)) (λ k m. meets-all k (omega arith)), h .few-rows))
         ]
 
-    chained-by : (n : ℕ) → chain-length t ≡ suc n → Chained admits t
+    chained-by : (n : ℕ) → chain-length t ≡ suc n → Chain-ends admits t
     chained-by n e =
         let before : Clear admits t n = λ k l. clear k (omega arith) in
         record {
@@ -106,7 +107,7 @@ module _ (admits : ℕ → ℕ → Bool) (t : List ℕ) where
           apart = λ j k l m. apart-at admits t h n before j k l (omega arith);
         }
 
-  pub chained : table-refusal admits t ≡ None → Chained admits t
+  pub chained : table-refusal admits t ≡ None → Chain-ends admits t
   unfolding chain-length
   chained e =
       let p = parts e in
@@ -137,4 +138,4 @@ module _ (admits : ℕ → ℕ → Bool) (t : List ℕ) where
       cc
 
 pub tables-told : Tables-told
-tables-told = record { told = tells; chained = chained; one-reply = one }
+tables-told = record { said = said; told = tells; chained = chained; one-reply = one }

@@ -4,4 +4,5 @@ pub mod Fine
 pub mod Chains
 pub mod Walking
 pub mod Finish
+pub mod Said
 pub mod Laws

@@ -17,10 +17,8 @@ use Rattle.std.proofs.shelf.Tests.{cases-eq}
 use Rattle.mitl.specs.declared.Row.{Row}
 use Rattle.mitl.specs.declared.Row.the-variants.{Input}
 use Rattle.table.specs.Chain.{on-chain, fields-at, letter-at, row-in, row-faults, chain-faults, chain-length, rows-before, numbers-before}
-use Rattle.table.specs.Decoded.{Draft-of}
-use Rattle.table.specs.Faults.{Stepped, faults-of, row-of}
-use Rattle.table.specs.Layout.{fields-of, rows-told, row-start}
-use Rattle.table.specs.Letters.{letter-from}
+use Rattle.table.specs.Steps.{Draft-of, Stepped}
+use Rattle.table.specs.Layout.{rows-told, row-start}
 use Rattle.refusal.specs.Faults.{first-fault}
 use Rattle.table.specs.declared.Draft.{Draft}
 use Rattle.refusal.specs.declared.Refusal.{Refusal}
@@ -52,12 +50,6 @@ took-more : {X : Type 0} (f : ℕ → X) (xs : List X) (n : ℕ) (x : X) → n <
 took-more f xs n x h e same =
     take-more-set xs n x h ∙ (λ i. e i ++ (same i ∷ [])) ∙ sym (map-counting-more f 0 n n (omega arith))
 
--- the reply to row `at` after the rows `ns` and `rs`
-abbrev pub Given : (ℕ → ℕ → Bool) → List ℕ → ℕ → List ℕ → List Row → ℕ → Result Step RowFault → Type 0
-Given admits t told ns rs at r =
-    Stepped (first-fault (faults-of admits told ns rs at (letter-from (fields-of t at .letter)) (fields-of t at)))
-    (row-of ns (letter-from (fields-of t at .letter)) (fields-of t at)) (fields-of t at .next) r
-
 module _ (admits : ℕ → ℕ → Bool) (t : List ℕ) (h : Headed t) (rows : List Row) (numbers : List ℕ) (n at : ℕ) (w : Walking admits t rows numbers n at) where
   module _ (on : at ≡ 0 → ⊥) where
     met-all : (k : ℕ) → k ≤ n → on-chain t k ≡ 0 → ⊥
@@ -78,13 +70,14 @@ module _ (admits : ℕ → ℕ → Bool) (t : List ℕ) (h : Headed t) (rows : L
           omega (arith, size-rows, w .few),
         )
 
-    pub moved : (told : ℕ) → told ≡ rows-told t → (r : Result Step RowFault) → Given admits t told (take n numbers) (take n rows) at r
-        → Stepped (first-fault (row-faults admits t n)) (row-in t n) (fields-at t n .next) r
+    -- the reply to the row to come, in words of the table
+    pub moved : (told : ℕ) → told ≡ rows-told t → (r : Result Step RowFault) → Stepped admits told (take n numbers) (take n rows) t at r
+        → Stepped admits (rows-told t) (numbers-before t n) (rows-before t n) t (on-chain t n) r
     moved told e r g =
-        subst (λ (x : ℕ). Given admits t (rows-told t) (numbers-before t n) (rows-before t n) x r) (w .here)
-        (subst (λ (x : List Row). Given admits t (rows-told t) (numbers-before t n) x at r) (w .took-rows)
-        (subst (λ (x : List ℕ). Given admits t (rows-told t) x (take n rows) at r) (w .took-numbers)
-        (subst (λ (x : ℕ). Given admits t x (take n numbers) (take n rows) at r) e g)))
+        subst (λ (x : ℕ). Stepped admits (rows-told t) (numbers-before t n) (rows-before t n) t x r) (w .here)
+        (subst (λ (x : List Row). Stepped admits (rows-told t) (numbers-before t n) x t at r) (w .took-rows)
+        (subst (λ (x : List ℕ). Stepped admits (rows-told t) x (take n rows) t at r) (w .took-numbers)
+        (subst (λ (x : ℕ). Stepped admits x (take n numbers) (take n rows) t at r) e g)))
 
     pub failed : (r : Refusal) → first-fault (row-faults admits t n) ≡ Some r → first-fault (chain-faults admits t) ≡ Some r
     failed r e =

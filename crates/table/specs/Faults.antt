@@ -1,5 +1,4 @@
 -- What is wrong with a row, by its fields and the rows before it on the chain. Assumes nothing.
-use mathlib.Core.Path.{_≡_}
 use mathlib.Core.Bool.{Bool, true, false, cond, not, _&&_, _||_}
 use mathlib.Core.List.{List, [], _∷_}
 use Prim.Native.Nat.{ℕ}
@@ -8,32 +7,26 @@ use lib.ListN.{length}
 use Rattle.std.specs.Options.{isSome, valueOr}
 use Rattle.std.specs.declared.option.Option.{Option}
 use Rattle.std.specs.declared.option.Option.the-variants.{Some, None}
-use Rattle.std.specs.declared.result.Result.{Result}
-use Rattle.std.specs.declared.result.Result.the-variants.{Ok, Err}
 use Rattle.mitl.specs.declared.Row.{Row}
 use Rattle.mitl.specs.declared.Row.the-variants.{Input, Not, And, Or, Once, Always, Since, Rule}
 use Rattle.mitl.specs.Rows.{row-at, is-rule}
 use Rattle.mitl.specs.Windows.{some-below, sound-window}
 use Rattle.plan.specs.Places.{place-among}
 use Rattle.plan.specs.Sound.{is-a-rule}
-use Rattle.refusal.specs.declared.Refusal.{Refusal}
-use Rattle.table.specs.declared.fault.RowFault.{RowFault}
 use Rattle.table.specs.declared.row.Fields.{Fields}
 use Rattle.table.specs.declared.row.Letter.{Letter}
 use Rattle.table.specs.declared.row.Letter.the-variants.{P, N, A, O, D, B, S, R}
-use Rattle.table.specs.declared.row.Step.{Step}
 use Rattle.table.specs.Letters.{left-used, right-used, window-used, rule-letter, well-filled}
 use Rattle.refusal.specs.Faults.{Fault, fault}
-use Rattle.table.specs.Refusals.{of-row}
 
--- ns are the numbers of the rows before, along the chain, and rs what they say
+-- Below, ns are the numbers of the rows before, along the chain, and rs what these rows say.
 
--- where row n stands, if it is no rule
+-- a place, unless a rule stands there
 abbrev pub unless-rule : List Row → Option ℕ → Option ℕ
 unless-rule rs None = None
 unless-rule rs (Some k) = cond (is-a-rule (row-at rs k)) None (Some k)
 
--- the place of an operand
+-- the place of the operand n: a row before that is no rule
 abbrev pub operand-place : List ℕ → List Row → ℕ → Option ℕ
 operand-place ns rs n = unless-rule rs (place-among ns n)
 
@@ -61,7 +54,7 @@ module _ (admits : ℕ → ℕ → Bool) (told : ℕ) (ns : List ℕ) (rs : List
   faults-of None f = fault true 4 r ∷ []
   faults-of (Some c) f = faults-as c f
 
--- the place of row n before
+-- the place of row n among the rows before
 abbrev pub place-in : List ℕ → ℕ → ℕ
 place-in ns n = valueOr (place-among ns n) 0
 
@@ -82,18 +75,3 @@ row-as ns c f = row-with c f (place-in ns (f .left)) (place-in ns (f .right))
 abbrev pub row-of : List ℕ → Option Letter → Fields → Row
 row-of ns None f = Input 0
 row-of ns (Some c) f = row-as ns c f
-
--- the reply to one row: its first fault, or what it says where it has none
-abbrev pub Judged : Option Refusal → Row → Result Row RowFault → Type 0
-Judged found row (Ok x) = (found ≡ None) × (x ≡ row)
-Judged found row (Err e) = found ≡ Some (of-row e)
-
--- the same for its operands alone
-abbrev pub Meant : Bool → Row → Option Row → Type 0
-Meant right row None = right ≡ false
-Meant right row (Some x) = (right ≡ true) × (x ≡ row)
-
--- the reply to one row of a table: its first found, or what it says and the number of the next row
-abbrev pub Stepped : Option Refusal → Row → ℕ → Result Step RowFault → Type 0
-Stepped found row n (Ok s) = (found ≡ None) × (s .row ≡ row) × (s .next ≡ n)
-Stepped found row n (Err e) = found ≡ Some (of-row e)

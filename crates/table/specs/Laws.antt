@@ -3,18 +3,36 @@ use mathlib.Core.Path.{_≡_}
 use mathlib.Core.Bool.{Bool, true, false}
 use mathlib.Core.List.{List}
 use Prim.Native.Nat.{ℕ, suc, _<_, _≤_}
+use Rattle.std.specs.Options.{isSome}
+use Rattle.std.specs.Orderings.{Decides}
 use Rattle.std.specs.declared.option.Option.the-variants.{Some, None}
 use Rattle.std.specs.declared.result.Result.{Result}
 use Rattle.std.specs.declared.result.Result.the-variants.{Ok, Err}
 use Rattle.plan.specs.declared.plan.Plan.{Plan}
+use Rattle.plan.specs.Places.{place-among}
 use Rattle.plan.specs.Sound.{is-a-rule}
 use Rattle.refusal.specs.declared.Refusal.{Refusal}
 use Rattle.table.specs.declared.fault.TableFault.{TableFault}
-use Rattle.table.specs.Chain.{on-chain, row-in, chain-length, head-faults, row-faults, table-refusal}
+use Rattle.table.specs.Chain.{on-chain, fields-at, row-in, numbers-before, rows-before, chain-length, head-faults, row-faults, table-refusal}
 use Rattle.table.specs.Decoded.{Decoded}
-use Rattle.table.specs.Layout.{rows-told}
+use Rattle.table.specs.Faults.{operand-place, place-in, rule-used}
+use Rattle.table.specs.Layout.{fields-of, rows-told}
 use Rattle.refusal.specs.Faults.{first-fault, refusal}
 use Rattle.table.specs.Refusals.{of-table}
+
+-- what the tests on the rows before place i say of the chain and of the bytes
+pub record Read-as-said (t : List ℕ) (i : ℕ) : Type 0 where
+  -- row n stands on the chain before place i
+  pub stands : (n : ℕ) → Decides (isSome (place-among (numbers-before t i) n)) ((k : ℕ) × (k < i) × (on-chain t k ≡ n))
+  -- and its place is one at which it stands
+  pub place : (n : ℕ) → isSome (place-among (numbers-before t i) n) ≡ true
+      → (place-in (numbers-before t i) n < i) × (on-chain t (place-in (numbers-before t i) n) ≡ n)
+  -- it may be an operand: its letter is not R
+  pub operand : (n : ℕ) → Decides (isSome (operand-place (numbers-before t i) (rows-before t i) n))
+      (((k : ℕ) × (k < i) × (on-chain t k ≡ n)) × (fields-of t n .letter ≡ 82 → ⊥))
+  -- a row before place i has the letter R and the number n
+  pub used : (n : ℕ) → Decides (rule-used (rows-before t i) n)
+      ((k : ℕ) × (k < i) × (fields-at t k .letter ≡ 82) × (fields-at t k .number ≡ n))
 
 module _ (admits : ℕ → ℕ → Bool) (t : List ℕ) where
   -- the first n rows of the chain have no fault
@@ -36,7 +54,7 @@ module _ (admits : ℕ → ℕ → Bool) (t : List ℕ) where
         → (k : ℕ) → k ≤ i → is-a-rule (row-in t k) ≡ true → (table-refusal admits t ≡ None) × (chain-length t ≡ suc i)
 
   -- the chain of a sound table ends, and takes no row twice
-  pub record Chained : Type 0 where
+  pub record Chain-ends : Type 0 where
     pub few : chain-length t ≤ rows-told t
     pub ends : on-chain t (chain-length t) ≡ 0
     pub within : (k : ℕ) → k < chain-length t → (1 ≤ on-chain t k) × (on-chain t k ≤ rows-told t)
@@ -50,6 +68,7 @@ Same-reply (Err f) (Ok q) = ⊥
 Same-reply (Err f) (Err g) = of-table f ≡ of-table g
 
 pub record Tables-told : Type 0 where
+  pub said : (t : List ℕ) (i : ℕ) → Read-as-said t i
   pub told : (admits : ℕ → ℕ → Bool) (t : List ℕ) → Told admits t
-  pub chained : (admits : ℕ → ℕ → Bool) (t : List ℕ) → table-refusal admits t ≡ None → Chained admits t
+  pub chained : (admits : ℕ → ℕ → Bool) (t : List ℕ) → table-refusal admits t ≡ None → Chain-ends admits t
   pub one-reply : (admits : ℕ → ℕ → Bool) (t : List ℕ) (r s : Result Plan TableFault) → Decoded admits t r → Decoded admits t s → Same-reply r s

@@ -4,4 +4,5 @@ pub mod Letters
 pub mod Faults
 pub mod Chain
 pub mod Decoded
+pub mod Steps
 pub mod Laws

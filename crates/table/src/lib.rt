@@ -8,8 +8,9 @@ ghost use mathlib.Core.Bool.{true};
 ghost use Prim.Native.Nat.{ℕ, _+_, _*_, _<_, _≤_};
 ghost use lib.ListN.{length};
 ghost use Rattle.std.specs.declared.result.Result.the-variants.{Ok};
+ghost use Rattle.table.specs.Steps.{Opened, Walked};
 ghost use Rattle.table.specs.Laws.{Tables-told};
-ghost use Rattle.table.specs.Decoded.{Decoded, Opened, Walked};
+ghost use Rattle.table.specs.Decoded.{Decoded};
 ghost use Rattle.table.specs.Chain.{right-head};
 
 pub mod fault;

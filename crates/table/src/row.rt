@@ -9,9 +9,9 @@ ghost use Rattle.std.specs.declared.option.Option.the-variants.{Some};
 ghost use Rattle.mitl.specs.Rows.{is-rule};
 ghost use Rattle.mitl.specs.Windows.{sound-window};
 ghost use Rattle.plan.specs.Places.{place-among};
-ghost use Rattle.table.specs.Faults.{operand-place, operands-right, rule-used, row-with, row-as, faults-as, faults-of, row-of, Judged, Meant, Stepped};
+ghost use Rattle.table.specs.Faults.{operand-place, rule-used, row-with};
 ghost use Rattle.table.specs.Layout.{fields-from, fields-of, row-start};
-ghost use Rattle.refusal.specs.Faults.{first-fault};
+ghost use Rattle.table.specs.Steps.{Meant, Judged, Stepped};
 ghost use Rattle.table.specs.Letters.{letter-from, left-used, right-used, window-used, rule-letter, number-end, well-filled};
 use crate::fault::RowFault;
 use mitl::Row;
@@ -141,7 +141,7 @@ impl Letter {
 
 impl Fields {
     // The fields of a row of the table.
-    pub fn of_row(bytes: &[u8], row: u8) -> Fields
+    pub(crate) fn of_row(bytes: &[u8], row: u8) -> Fields
         requires { ⌜ (1 ≤ row) × (row-start row + 16 ≤ length (now bytes)) ⌝ }
         ensures { λ r. ⌜ r ≡ fields-of (now (bytes .entry)) row ⌝ }
     {
@@ -198,6 +198,7 @@ fn has_used(rows: &[Row], number: u8) -> bool
     false
 }
 
+// Whether a row is rule i.
 fn is_the_rule(row: Row, i: u8) -> bool
     ensures { λ r. ⌜ r ≡ is-rule i row ⌝ }
 {
@@ -207,19 +208,21 @@ fn is_the_rule(row: Row, i: u8) -> bool
     }
 }
 
-// Whether the memory kind refuses the window of a row.
+// Whether the memory kind refuses the window of a row: the one place where a kind is asked.
 fn is_refused<A: Admission>(letter: Letter, fields: Fields) -> bool
     ensures { λ r. ⌜ r ≡ (window-used letter && not (A·Admission .admitted (fields .a) (fields .b))) ⌝ }
 {
     letter.uses_window() && !A::admits(fields.a, fields.b)
 }
 
+// Whether a timed row has no window that a table may have.
 fn is_no_window(letter: Letter, fields: Fields) -> bool
     ensures { λ r. ⌜ r ≡ (window-used letter && not (sound-window (fields .a) (fields .b))) ⌝ }
 {
     letter.uses_window() && !is_sound_window(fields.a, fields.b)
 }
 
+// Whether a rule's number has been used.
 fn is_used_rule(letter: Letter, fields: Fields, rows: &[Row]) -> bool
     ensures { λ r. ⌜ r ≡ (rule-letter letter && rule-used (now (rows .entry)) (fields .number)) ⌝ }
 {
@@ -253,7 +256,7 @@ fn row_with(letter: Letter, fields: Fields, left: u8, right: u8) -> Row
 // What a row says, if its operands are rows before that are no rules.
 fn meant(letter: Letter, fields: Fields, numbers: &[u8], rows: &[Row]) -> Option<Row>
     requires { ⌜ (length (now numbers) ≡ length (now rows)) × (length (now rows) ≤ 64) ⌝ }
-    ensures { λ r. ⌜ Meant (operands-right (now (numbers .entry)) (now (rows .entry)) letter fields) (row-as (now (numbers .entry)) letter fields) r ⌝ }
+    ensures { λ r. ⌜ Meant (now (numbers .entry)) (now (rows .entry)) letter fields r ⌝ }
 {
     let left = operand_if(letter.uses_left(), numbers, rows, fields.left)?;
     let right = operand_if(letter.uses_right(), numbers, rows, fields.right)?;
@@ -270,7 +273,7 @@ fn judged<A: Admission>(
     at: u8,
 ) -> Result<Row, RowFault>
     requires { ⌜ (length (now numbers) ≡ length (now rows)) × (length (now rows) ≤ 64) ⌝ }
-    ensures { λ r. ⌜ Judged (first-fault (faults-as (A·Admission .admitted) told (now (numbers .entry)) (now (rows .entry)) at letter fields)) (row-as (now (numbers .entry)) letter fields) r ⌝ }
+    ensures { λ r. ⌜ Judged (A·Admission .admitted) told (now (numbers .entry)) (now (rows .entry)) at letter fields r ⌝ }
 {
     if !fields.well_filled(letter) {
         return Err(RowFault::Field(at));
@@ -301,7 +304,7 @@ pub struct Step {
 }
 
 // Row `at` of the table, or its first fault; `numbers` and `rows` are those before it on the chain.
-pub fn take<A: Admission>(
+pub(crate) fn take<A: Admission>(
     bytes: &[u8],
     told: u8,
     numbers: &[u8],
@@ -309,7 +312,7 @@ pub fn take<A: Admission>(
     at: u8,
 ) -> Result<Step, RowFault>
     requires { ⌜ (1 ≤ at) × (row-start at + 16 ≤ length (now bytes)) × (length (now numbers) ≡ length (now rows)) × (length (now rows) ≤ 64) ⌝ }
-    ensures { λ r. ⌜ Stepped (first-fault (faults-of (A·Admission .admitted) told (now (numbers .entry)) (now (rows .entry)) at (letter-from (fields-of (now (bytes .entry)) at .letter)) (fields-of (now (bytes .entry)) at))) (row-of (now (numbers .entry)) (letter-from (fields-of (now (bytes .entry)) at .letter)) (fields-of (now (bytes .entry)) at)) (fields-of (now (bytes .entry)) at .next) r ⌝ }
+    ensures { λ r. ⌜ Stepped (A·Admission .admitted) told (now (numbers .entry)) (now (rows .entry)) (now (bytes .entry)) at r ⌝ }
 {
     let fields = Fields::of_row(bytes, at);
     let Some(letter) = Letter::of(fields.letter) else {

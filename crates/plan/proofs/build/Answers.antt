@@ -1,3 +1,4 @@
+-- What is left to show for the invariant of a plan that is built. Assumes nothing.
 use mathlib.Core.Path.{_≡_, sym}
 use mathlib.Core.Bool.{true, _&&_}
 use lib.Dec.{leb}

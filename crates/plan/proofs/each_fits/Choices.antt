@@ -1,3 +1,4 @@
+-- The invariant for each of the first rows fits its place. Assumes nothing.
 use Prim.Native.Nat.{ℕ, _<_}
 use mathlib.Core.Path.{_≡_}
 use mathlib.Core.Bool.{true}

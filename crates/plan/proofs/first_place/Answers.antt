@@ -1,3 +1,4 @@
+-- What is left to show for the first place of a number. Assumes nothing.
 use mathlib.Core.Path.{_≡_, sym, _∙_}
 use mathlib.Core.Bool.{cond}
 use mathlib.Core.List.{List}

@@ -1,3 +1,4 @@
+-- The invariant for the first place of a number. Assumes nothing.
 use mathlib.Core.Path.{_≡_}
 use lib.ListN.{drop}
 use Rattle.plan.specs.Places.{place-from}

@@ -1,3 +1,4 @@
+-- What is left to show for one of the first rows is a rule. Assumes nothing.
 use mathlib.Core.Path.{sym}
 use Prim.Native.Nat.{ℕ, _<_}
 use native.Mathlib.Omega.{arith}

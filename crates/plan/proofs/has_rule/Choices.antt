@@ -1,3 +1,4 @@
+-- The invariant for one of the first rows is a rule. Assumes nothing.
 use Prim.Native.Nat.{ℕ, _<_}
 use mathlib.Core.Path.{_≡_}
 use mathlib.Core.Bool.{false}

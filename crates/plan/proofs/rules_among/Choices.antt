@@ -1,3 +1,4 @@
+-- The invariant for the count of rules. Assumes nothing.
 use mathlib.Core.Path.{_≡_}
 use Prim.Native.Nat.{_≤_}
 use Rattle.plan.specs.Totals.{rules-before}

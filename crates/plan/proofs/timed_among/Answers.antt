@@ -1,3 +1,4 @@
+-- What is left to show for the count of timed rows. Assumes nothing.
 use mathlib.Core.Path.{_≡_, refl}
 use mathlib.Core.Bool.{cond}
 use Prim.Native.Nat.{_+_}

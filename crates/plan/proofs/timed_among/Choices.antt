@@ -1,3 +1,4 @@
+-- The invariant for the count of timed rows. Assumes nothing.
 use mathlib.Core.Path.{_≡_}
 use Prim.Native.Nat.{_≤_}
 use Rattle.mitl.specs.Rows.{timed-before}

@@ -1,3 +1,4 @@
+-- What is left to show for the reply to a table. Assumes nothing.
 use mathlib.Core.Path.{_≡_, sym, _∙_}
 use Rattle.std.proofs.shelf.Results.{err-from-errBy}
 use Rattle.table.specs.Refusals.{of-row, of-table}

@@ -1,3 +1,4 @@
+-- What is left to show for the laws of tables. Assumes nothing.
 use Rattle.table.proofs.Laws.{tables-told}
 use Rattle.table.proofs.tables_hold.Needs as need
 

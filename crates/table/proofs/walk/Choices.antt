@@ -1,3 +1,4 @@
+-- The invariant for the walk along the chain. Assumes nothing.
 use Prim.Native.Nat.{_-_}
 use Rattle.table.proofs.Walking.{Walking}
 use Rattle.table.proofs.walk.Given as given

@@ -1,3 +1,4 @@
+-- What is left to show for the line of a row. Assumes nothing.
 use native.Mathlib.Omega.{arith}
 use Rattle.mitl.specs.Rows.{row-at}
 use Rattle.plan.proofs.Earlier.{row-earlier}

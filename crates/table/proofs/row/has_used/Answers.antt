@@ -1,3 +1,4 @@
+-- What is left to show for a rule number used before. Assumes nothing.
 use mathlib.Core.Path.{sym}
 use native.Mathlib.Omega.{arith}
 use borrow.Author.Count.{below-more}

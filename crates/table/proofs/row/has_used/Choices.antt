@@ -1,3 +1,4 @@
+-- The invariant for a rule number used before. Assumes nothing.
 use Prim.Native.Nat.{ℕ, _<_}
 use mathlib.Core.Path.{_≡_}
 use mathlib.Core.Bool.{false}

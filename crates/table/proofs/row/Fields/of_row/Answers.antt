@@ -1,3 +1,4 @@
+-- What is left to show for the fields of a row of the table. Assumes nothing.
 use mathlib.Core.Path.{_≡_, ap, _∙_}
 use Prim.Native.Nat.{_+_, _-_}
 use native.Mathlib.Omega.{arith}
