@@ -192,6 +192,7 @@ pub fn busiest(notes: &[Note], car: Car) -> Result<BusiestRule, ShareFault>
 #[cfg(test)]
 mod tests {
     use super::*;
+    use record::Note;
     use refusal::RefusalDebug;
     use refusal::RefusalPartialEq;
     use std::test::*;
