@@ -1,0 +1,5 @@
+pub mod Sent
+pub mod Kept
+pub mod Lowest
+pub mod Spaces
+pub mod Numbers
