@@ -1,16 +1,46 @@
-//! A month's sheet: each car's share of time per rule, from what the watch printed or from verdict records.
-mod reading;
-mod sheet;
+//! A month's sheet: each car's shares of time, from what the watch printed or from verdict records.
+//!
+//! Each damaged line or record is told of first. Then comes a table with a row for each car, in the order of the
+//! cars' numbers: the car, all its ticks, the share of each rule in per mille, and the busiest rule with its share.
+mod table;
 
-use sheet::SheetLineDisplay;
+use sheet::Piece;
 use std::io;
 use std::io::Read;
+use table::Head;
+use table::HeadDisplay;
+use table::Line;
+use table::LineDisplay;
+
+// A line for each damaged piece, which has its number from 1.
+fn print_damage(rt: &LibcRuntime, pieces: &[Piece]) -> io::Result<()> {
+    for (i, piece) in pieces.iter().enumerate() {
+        let number = i + 1;
+        match *piece {
+            Piece::DamagedLine => println!(rt, "damaged line {number}")?,
+            Piece::DamagedRecord(fault) => {
+                let refusal = fault.refusal();
+                println!(rt, "damaged record {number} X {refusal}")?;
+            }
+            _ => {}
+        }
+    }
+    Ok(())
+}
 
 fn main(rt: LibcRuntime) -> io::Result<()> {
-    let mut input = Vec::new(rt.alloc());
+    let heap = rt.alloc();
+    let mut input = Vec::new(heap);
     rt.stdin().read_to_end(&mut input)?;
-    for line in sheet::sheet_of(rt.alloc(), &input)? {
-        rt.println(line)?;
+    let pieces = sheet::pieces(heap, &input)?;
+    print_damage(&rt, &pieces)?;
+    let notes = sheet::notes_of(heap, &pieces)?;
+    rt.println(Head)?;
+    let mut above = 0;
+    while let Some(car) = sheet::next_car(&notes, above) {
+        let own = sheet::own_notes(heap, &notes, car)?;
+        rt.println(Line::of(&own, car))?;
+        above = car.number;
     }
     Ok(())
 }

@@ -1,11 +1,14 @@
 -- What a line or a record of the input tells of. Assumes nothing.
 use mathlib.Core.Path.{_≡_}
 use mathlib.Core.Bool.{Bool, true, false, _||_}
+use mathlib.Core.Logic.{_⊎_}
 use mathlib.Core.List.{List, [], _∷_, _++_}
 use Prim.Native.Nat.{ℕ, _^_, _<_}
 use lib.Dec.{eqb}
 use denote.Ref.{RefT}
-use lib.ListN.{length, getD}
+use lib.ListN.{length, getD, take, drop}
+use Rattle.std.specs.Orderings.{When}
+use Rattle.std.specs.shelf.Lists.{joined}
 use Rattle.std.specs.declared.option.Option.{Option}
 use Rattle.std.specs.declared.option.Option.the-variants.{Some, None}
 use Rattle.std.specs.Reads.{Numeral, value, afterPlus}
@@ -84,3 +87,38 @@ Line-piece line (Verdict n) = (passed-over line ≡ false) × Told line (Some n)
 Line-piece line Other = passed-over line ≡ true
 Line-piece line DamagedLine = (passed-over line ≡ false) × Told line None
 Line-piece line (DamagedRecord e) = ⊥
+
+-- a text up to its first line feed, and what comes after
+pub record First-line (bytes line rest : List ℕ) : Type 0 where
+  pub unbroken : (i : ℕ) → i < length line → getD line i 0 ≡ 10 → ⊥
+  pub cut : (bytes ≡ line ++ (10 ∷ rest)) ⊎ ((bytes ≡ line) × (rest ≡ []))
+
+-- the pieces of a text, line by line
+abbrev pub Lines : List ℕ → List Piece → Type 0
+Lines bytes [] = bytes ≡ []
+Lines bytes (p ∷ ps) = (0 < length bytes) × ((line : List ℕ) × (rest : List ℕ) × First-line bytes line rest × Line-piece line p × Lines rest ps)
+
+-- the pieces of records, twelve bytes by twelve, and fewer at the end
+abbrev pub Records : List ℕ → List Piece → Type 0
+Records bytes [] = bytes ≡ []
+Records bytes (p ∷ ps) = (0 < length bytes) × Record-piece (take 12 bytes) p × Records (drop 12 bytes) ps
+
+-- the second byte is zero
+abbrev pub second-zero : List ℕ → Bool
+second-zero [] = false
+second-zero (a ∷ []) = false
+second-zero (a ∷ b ∷ bytes) = eqb b 0
+
+-- An input whose second byte is zero is records, and any other is text.
+abbrev pub Pieces : List ℕ → List Piece → Type 0
+Pieces bytes ps = When (second-zero bytes) (Records bytes ps) (Lines bytes ps)
+
+abbrev pub piece-notes : Piece → List Note
+piece-notes (Verdict n) = n ∷ []
+piece-notes Other = []
+piece-notes DamagedLine = []
+piece-notes (DamagedRecord e) = []
+
+-- the notes that pieces tell of, in their order
+abbrev pub all-notes : List Piece → List Note
+all-notes ps = joined piece-notes ps

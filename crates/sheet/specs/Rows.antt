@@ -30,6 +30,10 @@ abbrev pub Rowed : List Note → Car → Result Row ShareFault → Type 0
 Rowed ns c (Ok r) = (first-fault (note-faults ns c) ≡ None) × Sums ns c r
 Rowed ns c (Err e) = first-fault (note-faults ns c) ≡ Some (refusal-of e)
 
+-- a car has the same ticks in two lists of notes, and each rule the same figure
+abbrev pub Same-shares : List Note → List Note → Car → Type 0
+Same-shares ms ns c = (car-ticks ms c ≡ car-ticks ns c) × ((i : ℕ) → figure ms c i ≡ figure ns c i)
+
 -- a car that is lower than the other, if there is one
 abbrev pub Lowers : Car → Option Car → Type 0
 Lowers c None = Unit {0}

@@ -1,4 +1,4 @@
-use mathlib.Core.Path.{_≡_, refl, ap, _∙_}
+use mathlib.Core.Path.{_≡_, refl, sym, ap, subst, _∙_}
 use mathlib.Core.Bool.{false}
 use native.Mathlib.Omega.{arith}
 use Rattle.std.specs.Of.Vec.{vec-items}
@@ -6,7 +6,8 @@ use Rattle.std.specs.shelf.Lists.{kept-by}
 use Rattle.std.proofs.shelf.Lists.{take-all}
 use Rattle.std.proofs.shelf.Tests.{eq-eqb, ne-eqb, both-ways}
 use Rattle.share.specs.Ticks.{of-car}
-use Rattle.sheet.proofs.Kept.{kept-one, kept-none}
+use Rattle.sheet.specs.Rows.{Same-shares}
+use Rattle.sheet.proofs.Kept.{kept-one, kept-none, same-shares}
 use Rattle.sheet.proofs.own_notes.Needs as need
 use Rattle.sheet.proofs.own_notes.Needs.{then-eq·in-Continue-push, else-eq}
 
@@ -20,4 +21,7 @@ loop-note-again c =
     ]
 
 pub returns : need.returns
-returns c = c .loop-note .inv ∙ ap (kept-by (of-car (c .args .car))) (take-all (c .loop-note .note-index) (c .args .notes .now) (c .loop-note-test .left))
+returns c =
+    let ns = c .args .notes .now in
+    let own = c .loop-note .inv ∙ ap (kept-by (of-car (c .args .car))) (take-all (c .loop-note .note-index) ns (c .loop-note-test .left)) in
+    record { items = own; shares = subst (λ ms. Same-shares ms ns (c .args .car)) (sym own) (same-shares ns (c .args .car)) }
