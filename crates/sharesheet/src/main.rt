@@ -4,6 +4,8 @@
 //! cars' numbers: the car, all its ticks, the share of each rule in per mille, and the busiest rule with its share.
 mod table;
 
+use record::Note;
+use refusal::RefusalDisplay;
 use sheet::Piece;
 use std::io;
 use std::io::Read;
@@ -28,19 +30,23 @@ fn print_damage(rt: &LibcRuntime, pieces: &[Piece]) -> io::Result<()> {
     Ok(())
 }
 
-fn main(rt: LibcRuntime) -> io::Result<()> {
-    let heap = rt.alloc();
-    let mut input = Vec::new(heap);
-    rt.stdin().read_to_end(&mut input)?;
-    let pieces = sheet::pieces(heap, &input)?;
-    print_damage(&rt, &pieces)?;
-    let notes = sheet::notes_of(heap, &pieces)?;
+// The table, with a row for each car of the notes.
+fn print_table(rt: &LibcRuntime, notes: &[Note]) -> io::Result<()> {
     rt.println(Head)?;
     let mut above = 0;
-    while let Some(car) = sheet::next_car(&notes, above) {
-        let own = sheet::own_notes(heap, &notes, car)?;
+    while let Some(car) = sheet::next_car(notes, above) {
+        let own = sheet::own_notes(rt.alloc(), notes, car)?;
         rt.println(Line::of(&own, car))?;
         above = car.number;
     }
     Ok(())
+}
+
+fn main(rt: LibcRuntime) -> io::Result<()> {
+    let mut input = Vec::new(rt.alloc());
+    rt.stdin().read_to_end(&mut input)?;
+    let pieces = sheet::pieces(rt.alloc(), &input)?;
+    print_damage(&rt, &pieces)?;
+    let notes = sheet::notes_of(rt.alloc(), &pieces)?;
+    print_table(&rt, &notes)
 }

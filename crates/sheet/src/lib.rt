@@ -98,6 +98,12 @@ pub fn row_of(notes: &[Note], car: Car) -> Result<Row, ShareFault>
     })
 }
 
+fn is_of(note: &Note, car: Car) -> bool
+    ensures { λ r. ⌜ r ≡ of-car car (now (note .entry)) ⌝ }
+{
+    note.car == car
+}
+
 // The car's own notes, in their order, which have the same shares for it.
 pub fn own_notes(heap: Global, notes: &[Note], car: Car) -> Result<Vec<Note>, AllocError>
     ensures items { λ r. ⌜ made r (λ v. vec-items v ≡ kept-by (of-car car) (now (notes .entry))) ⌝ }
@@ -105,7 +111,7 @@ pub fn own_notes(heap: Global, notes: &[Note], car: Car) -> Result<Vec<Note>, Al
 {
     let mut own = Vec::new(heap);
     for note in notes {
-        if note.car == car {
+        if is_of(note, car) {
             own.push(*note)?;
         }
     }
