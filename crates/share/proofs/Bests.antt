@@ -1,10 +1,10 @@
 -- The busiest rule, one rule more. Assumes nothing.
-use mathlib.Core.Path.{_≡_, refl, sym, ap, subst, _∙_}
+use mathlib.Core.Path.{_≡_, sym, ap, subst, _∙_}
 use mathlib.Core.Logic.{⊎-elim}
 use mathlib.Core.List.{List}
 use Prim.Native.Nat.{ℕ, _+_, _<_, _≤_}
 use native.Mathlib.Omega.{arith}
-use borrow.Author.Count.{below-none, below-more}
+use borrow.Author.Count.{below-more}
 use Rattle.std.proofs.shelf.Tests.{cases-lt}
 use Rattle.record.specs.declared.Car.{Car}
 use Rattle.record.specs.declared.Note.{Note}

@@ -1,6 +1,6 @@
 //! The share layer: what share of a car's time each rule was yes, from notes of its verdicts.
 ghost use mathlib.Core.Path.{_≡_};
-ghost use Prim.Native.Nat.{ℕ, _+_, _*_, _^_, _<_, _≤_};
+ghost use Prim.Native.Nat.{_+_, _*_, _^_, _<_, _≤_};
 ghost use lib.ListN.{length};
 ghost use Rattle.share.specs.Ticks.{of-car, yes-of, car-ticks, rule-ticks, per-mille, figure};
 ghost use Rattle.share.specs.Replies.{refusal-of, Summed, Whole, Parted, Shared, Busiest, Busier, Busied};

@@ -1,17 +1,17 @@
 -- Pieces found one by one, and the notes among them. Assumes nothing.
-use mathlib.Core.Path.{_≡_, refl, sym, ap, subst, _∙_}
+use mathlib.Core.Path.{_≡_, sym, ap, ap₂, subst, _∙_}
 use mathlib.Core.Bool.{true, false}
 use mathlib.Core.List.{List, [], _∷_, _++_}
-use mathlib.Core.Logic.{_⊎_, inl, inr, ⊎-elim}
+use mathlib.Core.Logic.{_⊎_, inl, ⊎-elim}
 use Prim.Native.Nat.{ℕ, min, _+_, _<_, _≤_}
 use native.Mathlib.Omega.{arith}
 use lib.Dec.{eqb}
-use lib.ListN.{length, getD, take, drop, length-append, length-drop}
-use Rattle.std.proofs.shelf.Lists.{append-nil, append-assoc, take-all, drop-all, take-more, drop-more, take-append-drop, getD-take, length-take, nil-from-length, joined-more, take-rest}
+use lib.ListN.{length, getD, take, drop, length-append}
+use Rattle.std.proofs.shelf.Lists.{append-nil, append-assoc, take-all, drop-all, take-more, drop-more, take-append-drop, getD-take, length-take, nil-from-length, joined-more}
 use Rattle.std.proofs.shelf.Tests.{cases-lt, eqb-true, eqb-false}
 use Rattle.sheet.specs.declared.Piece.{Piece}
 use Rattle.record.specs.declared.Note.{Note}
-use Rattle.sheet.specs.Pieces.{First-line, Line-piece, Lines, Record-piece, Records, piece-notes, all-notes}
+use Rattle.sheet.specs.Pieces.{First-line, piece-notes, all-notes}
 
 -- what is still to come gives the whole, after the pieces so far
 module _ (R : List ℕ → List Piece → Type 0) (bytes : List ℕ) where
@@ -61,6 +61,6 @@ back s =
     (cases-lt (length s) 12)
 
 -- the notes, one piece more
-pub notes-more : (ps : List Piece) (i : ℕ) (d : Piece) → i < length ps → (xs ys : List Note) → xs ≡ all-notes (take i ps) → ys ≡ xs ++ piece-notes (getD ps i d) → ys ≡ all-notes (take (i + 1) ps)
-notes-more ps i d l xs ys e f =
-    f ∙ ap (λ zs. zs ++ piece-notes (getD ps i d)) e ∙ joined-more piece-notes [] (take i ps) (getD ps i d) ∙ sym (ap all-notes (take-more ps i d l))
+pub notes-more : (ps : List Piece) (i : ℕ) (d : Piece) → i < length ps → (xs ys zs new : List Note) → xs ≡ all-notes (take i ps) → ys ≡ zs → zs ≡ xs ++ new → new ≡ piece-notes (getD ps i d) → ys ≡ all-notes (take (i + 1) ps)
+notes-more ps i d l xs ys zs new e f g h =
+    f ∙ g ∙ ap₂ _++_ e h ∙ joined-more piece-notes [] (take i ps) (getD ps i d) ∙ sym (ap all-notes (take-more ps i d l))

@@ -12,8 +12,7 @@ use Rattle.std.specs.shelf.Lists.{All}
 use Rattle.std.proofs.shelf.Elements.{all-append, all-from-getD}
 use Rattle.std.proofs.shelf.Ascii.{ascii-from-all}
 use Rattle.std.proofs.shelf.Text.{utf8-from-ascii}
-use Rattle.std.specs.Reads.{Numeral, value, afterPlus, ReadsUnsigned}
-use Rattle.std.specs.declared.option.Option.{Option}
+use Rattle.std.specs.Reads.{Numeral, afterPlus, ReadsUnsigned}
 use Rattle.std.specs.declared.option.Option.the-variants.{Some, None}
 use Rattle.std.specs.declared.result.Result.{Result}
 use Rattle.std.specs.declared.result.Result.the-variants.{Ok, Err}
@@ -21,7 +20,7 @@ use Rattle.std.proofs.shelf.Lists.{getD-drop}
 use Rattle.std.proofs.shelf.Numerals.{digit-at, afterPlus-none, afterPlus-plus}
 use Rattle.std.proofs.shelf.Tests.{cases-eq}
 use Rattle.record.specs.declared.Note.{Note}
-use Rattle.sheet.specs.Pieces.{Spaceless, Number, laid, Line, Sound, Fields, Told}
+use Rattle.sheet.specs.Pieces.{Spaceless, Number, laid, Line, Fields, Told}
 
 -- the bytes of a number are above a space and below 128
 Plain : List ℕ → Type 0

@@ -1,13 +1,11 @@
 -- From a record that was read to what it tells of. Assumes nothing.
-use mathlib.Core.Path.{_≡_, subst, ap, sym, _∙_}
+use mathlib.Core.Path.{_≡_, subst, sym}
 use mathlib.Core.Bool.{true}
 use mathlib.Core.List.{List, [], _∷_}
 use Prim.Native.Nat.{ℕ}
-use lib.Dec.{eqb}
-use lib.ListN.{length, getD}
+use lib.ListN.{getD}
 use Rattle.std.specs.declared.result.Result.the-variants.{Ok}
 use Rattle.std.proofs.shelf.Tests.{not-false}
-use Rattle.refusal.specs.Faults.{fault}
 use Rattle.refusal.proofs.Held.{none-parts}
 use Rattle.record.specs.declared.Record.{Record}
 use Rattle.record.specs.Layout.{fields-at, field-faults, apart-faults, letter-fault, zero-fault, car-fault, length-fault, word-fault, word-ok}

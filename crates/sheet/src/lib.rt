@@ -1,7 +1,7 @@
 //! What a month's sheet is made of: the notes that the input tells of, and a row for each car.
 ghost use mathlib.Core.Path.{_≡_};
 ghost use mathlib.Core.Bool.{true};
-ghost use Prim.Native.Nat.{ℕ, _<_, _≤_};
+ghost use Prim.Native.Nat.{_<_};
 ghost use lib.ListN.{length};
 ghost use Rattle.std.specs.Of.Vec.{vec-items};
 ghost use Rattle.std.specs.Vec.{listOf, made};
@@ -78,66 +78,6 @@ fn record_piece(bytes: &[u8]) -> Piece
         Ok(sent) => verdict_in(sent),
         Err(fault) => Piece::DamagedRecord(fault),
     }
-}
-
-// A car's row.
-pub fn row_of(notes: &[Note], car: Car) -> Result<Row, ShareFault>
-    ensures { λ r. ⌜ Rowed (now (notes .entry)) car r ⌝ }
-{
-    let busiest = share::busiest(notes, car)?;
-    let ticks = share::share_of(notes, car, 0)?.all;
-    let mut shares = [0; 16];
-    for rule in 0u8..16 {
-        shares[rule as usize] = share::share_of(notes, car, rule)?.per_mille;
-    }
-    Ok(Row {
-        car,
-        ticks,
-        shares,
-        busiest,
-    })
-}
-
-fn is_of(note: &Note, car: Car) -> bool
-    ensures { λ r. ⌜ r ≡ of-car car (now (note .entry)) ⌝ }
-{
-    note.car == car
-}
-
-// The car's own notes, in their order, which have the same shares for it.
-pub fn own_notes(heap: Global, notes: &[Note], car: Car) -> Result<Vec<Note>, AllocError>
-    ensures items { λ r. ⌜ made r (λ v. vec-items v ≡ kept-by (of-car car) (now (notes .entry))) ⌝ }
-    ensures shares { λ r. ⌜ made r (λ v. Same-shares (vec-items v) (now (notes .entry)) car) ⌝ }
-{
-    let mut own = Vec::new(heap);
-    for note in notes {
-        if is_of(note, car) {
-            own.push(*note)?;
-        }
-    }
-    Ok(own)
-}
-
-// The lower of two cars, if the first is above the number.
-fn lower(car: Car, above: u16, next: Option<Car>) -> Option<Car>
-    ensures { λ r. ⌜ Lower car above next r ⌝ }
-{
-    match next {
-        Some(other) if other.number <= car.number => next,
-        _ if car.number <= above => next,
-        _ => Some(car),
-    }
-}
-
-// The lowest car above a number.
-pub fn next_car(notes: &[Note], above: u16) -> Option<Car>
-    ensures { λ r. ⌜ Next (now (notes .entry)) above r ⌝ }
-{
-    let mut next = None;
-    for note in notes {
-        next = lower(note.car, above, next);
-    }
-    next
 }
 
 // The three numbers of a note's line: V, car, word and length, with a space before each.
@@ -261,6 +201,67 @@ pub fn notes_of(heap: Global, pieces: &[Piece]) -> Result<Vec<Note>, AllocError>
         }
     }
     Ok(notes)
+}
+
+// The lower of two cars, if the first is above the number.
+fn lower(car: Car, above: u16, next: Option<Car>) -> Option<Car>
+    ensures { λ r. ⌜ Lower car above next r ⌝ }
+{
+    match next {
+        Some(other) if other.number <= car.number => next,
+        _ if car.number <= above => next,
+        _ => Some(car),
+    }
+}
+
+// The lowest car above a number.
+pub fn next_car(notes: &[Note], above: u16) -> Option<Car>
+    ensures { λ r. ⌜ Next (now (notes .entry)) above r ⌝ }
+{
+    let mut next = None;
+    for note in notes {
+        next = lower(note.car, above, next);
+    }
+    next
+}
+
+// Whether a note is of this car.
+fn is_of(note: &Note, car: Car) -> bool
+    ensures { λ r. ⌜ r ≡ of-car car (now (note .entry)) ⌝ }
+{
+    note.car == car
+}
+
+// The car's own notes, in their order, which have the same shares for it.
+pub fn own_notes(heap: Global, notes: &[Note], car: Car) -> Result<Vec<Note>, AllocError>
+    ensures items { λ r. ⌜ made r (λ v. vec-items v ≡ kept-by (of-car car) (now (notes .entry))) ⌝ }
+    ensures shares { λ r. ⌜ made r (λ v. Same-shares (vec-items v) (now (notes .entry)) car) ⌝ }
+{
+    let mut own = Vec::new(heap);
+    for note in notes {
+        if is_of(note, car) {
+            own.push(*note)?;
+        }
+    }
+    Ok(own)
+}
+
+// A car's row.
+pub fn row_of(notes: &[Note], car: Car) -> Result<Row, ShareFault>
+    ensures { λ r. ⌜ Rowed (now (notes .entry)) car r ⌝ }
+{
+    let busiest = share::busiest(notes, car)?;
+    let ticks = share::share_of(notes, car, 0)?.all;
+    let mut shares = [0; 16];
+    for rule in 0u8..16 {
+        shares[rule as usize] = share::share_of(notes, car, rule)?.per_mille;
+    }
+    Ok(Row {
+        car,
+        ticks,
+        shares,
+        busiest,
+    })
 }
 
 #[cfg(test)]

@@ -1,5 +1,4 @@
-use mathlib.Core.Path.{_≡_, sym, subst, _∙_}
-use Prim.Native.Nat.{ℕ, _<_}
+use mathlib.Core.Path.{sym, subst}
 use native.Mathlib.Omega.{arith}
 use Rattle.sheet.specs.Pieces.{Told}
 use Rattle.sheet.proofs.Numbers.{none-told, car-number, word-number, ticks-number, not-parsed, parsed}
