@@ -13,7 +13,8 @@ use Rattle.std.specs.declared.result.Result.the-variants.{Ok, Err}
 use Rattle.std.proofs.shelf.Tests.{eq-eqb, eqb-true, not-false, not-from-true, cond-false}
 use Rattle.refusal.specs.declared.Refusal.{Refusal}
 use Rattle.refusal.specs.Faults.{Fault, fault, first-fault}
-use Rattle.refusal.proofs.Held.{none-parts, none-from, first-after}
+use Rattle.refusal.proofs.Held.{none-parts, none-from}
+use Rattle.refusal.proofs.Firsts.{after-none}
 use Rattle.record.specs.declared.Record.{Record}
 use Rattle.record.specs.declared.RecordFault.{RecordFault}
 use Rattle.record.specs.Layout.{two, four, two-at, four-at, bytes-of, fields-at, field-faults, apart-faults, reading-faults, writing-faults, passing-faults, room-fault, letter-fault, zero-fault}
@@ -63,8 +64,8 @@ passing-is bytes r room h =
     let letter-off = none-parts (letter-fault (f .letter)) (zero-fault z ∷ field-faults f) apart-none in
     let fields-none = none-parts (zero-fault z) (field-faults f) (letter-off .1) .1 in
     let sound = none-from (letter-fault (f .letter)) (field-faults f) (letter-off .0) fields-none in
-    first-after (reading-faults bytes) (room-fault room ∷ []) (h .0)
-    ∙ sym (first-after (letter-fault (fields-at bytes .letter) ∷ field-faults (fields-at bytes)) (room-fault room ∷ []) sound)
+    after-none (reading-faults bytes) (room-fault room ∷ []) (h .0)
+    ∙ sym (after-none (letter-fault (fields-at bytes .letter) ∷ field-faults (fields-at bytes)) (room-fault room ∷ []) sound)
     ∙ ap (λ s. first-fault (writing-faults s room)) (sym (h .2))
 
 pub passed-from : (bytes old new : List ℕ) (r : Record) → Read bytes (Ok r) → (x : Result ℕ RecordFault) → Written r old new x → Passed bytes old new x

@@ -33,13 +33,6 @@ none-parts f fs e = cond-none (f .held) (f .answer) (first-fault fs) e
 pub none-from : (f : Fault) (fs : List Fault) → f .held ≡ false → first-fault fs ≡ None → first-fault (f ∷ fs) ≡ None
 none-from f fs off none = cond-false (f .held) (Some (f .answer)) (first-fault fs) off ∙ none
 
--- faults that do not hold in front of others make no difference
-pub first-after : (fs gs : List Fault) → first-fault fs ≡ None → first-fault (fs ++ gs) ≡ first-fault gs
-first-after [] gs e = refl
-first-after (f ∷ fs) gs e =
-    let off = none-parts f fs e in
-    cond-false (f .held) (Some (f .answer)) (first-fault (fs ++ gs)) (off .0) ∙ first-after fs gs (off .1)
-
 -- Faults that are numbered from a on: none of them holds, or the one numbered i is the first.
 pub none-counted : (F : ℕ → Fault) (a n : ℕ) → ((i : ℕ) → a ≤ i → i < a + n → F i .held ≡ false) → first-fault (map F (counting a n)) ≡ None
 none-counted F a zero off = refl

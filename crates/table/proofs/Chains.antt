@@ -18,7 +18,8 @@ use Rattle.refusal.specs.Faults.{first-fault}
 use Rattle.table.specs.declared.row.Letter.{Letter}
 use Rattle.table.proofs.Distinct.{few-distinct}
 use Rattle.table.proofs.Fine.{Fine, fine-of}
-use Rattle.table.proofs.Firsts.{none-held, first-is, first-past}
+use Rattle.refusal.proofs.Firsts.{none-held}
+use Rattle.table.proofs.Numbers.{first-is, first-past}
 
 pub record Headed (t : List ℕ) : Type 0 where
   pub some-rows : 1 ≤ rows-told t

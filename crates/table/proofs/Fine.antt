@@ -23,7 +23,7 @@ use Rattle.refusal.specs.Faults.{first-fault}
 use Rattle.table.specs.declared.row.Fields.{Fields}
 use Rattle.table.specs.declared.row.Letter.{Letter}
 use Rattle.table.specs.declared.row.Letter.the-variants.{P, N, A, O, D, B, S, R}
-use Rattle.table.proofs.Firsts.{none-held}
+use Rattle.refusal.proofs.Firsts.{none-held}
 
 pub record Fine (told : ℕ) (ns : List ℕ) (rs : List Row) (r : ℕ) (c : Letter) (f : Fields) : Type 0 where
   pub filled : well-filled c f ≡ true

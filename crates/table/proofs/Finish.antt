@@ -27,7 +27,7 @@ use Rattle.table.specs.declared.Draft.{Draft}
 use Rattle.refusal.specs.declared.Refusal.{Refusal}
 use Rattle.table.proofs.Chains.{fine-at}
 use Rattle.table.proofs.Fine.{row-fine}
-use Rattle.table.proofs.Firsts.{after-none, before-rest}
+use Rattle.refusal.proofs.Firsts.{after-none, before-rest}
 
 module _ (admits : ℕ → ℕ → Bool) (t : List ℕ) (d : Draft) (of : Draft-of admits t d) where
   row-here : (k : ℕ) → k < d .count → row-at (d .rows) k ≡ row-in t k

@@ -28,7 +28,8 @@ use Rattle.table.specs.declared.fault.TableFault.{TableFault}
 use Rattle.table.proofs.Chains.{Headed, headed, low-at, apart-at, room-at, longer, ends-at}
 use Rattle.table.proofs.Finish.{head-refused, row-refused, rule-refused, not-refused}
 use Rattle.table.proofs.Said.{said}
-use Rattle.table.proofs.Firsts.{along-none, along-some, none-parts, none-along, first-before, first-at}
+use Rattle.refusal.proofs.Firsts.{along-none, along-some, none-parts, none-along}
+use Rattle.table.proofs.Numbers.{first-before, first-at}
 
 module _ (admits : ℕ → ℕ → Bool) (t : List ℕ) where
   module _ (opened : first-fault (head-faults t) ≡ None) (i : ℕ) (clear : Clear admits t i) (on : Goes-on admits t i) where

@@ -1,4 +1,4 @@
-pub mod Firsts
+pub mod Numbers
 pub mod Distinct
 pub mod Fine
 pub mod Chains

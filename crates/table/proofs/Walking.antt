@@ -25,7 +25,7 @@ use Rattle.refusal.specs.declared.Refusal.{Refusal}
 use Rattle.table.specs.declared.fault.RowFault.{RowFault}
 use Rattle.table.specs.declared.row.Step.{Step}
 use Rattle.table.proofs.Chains.{Headed, low-at, room-at, longer, ends-at}
-use Rattle.table.proofs.Firsts.{along-none, along-some}
+use Rattle.refusal.proofs.Firsts.{along-none, along-some}
 
 -- after `count` rows, with the row `at` to come
 pub record Walking (admits : ℕ → ℕ → Bool) (t : List ℕ) (rows : List Row) (numbers : List ℕ) (count at : ℕ) : Type 0 where

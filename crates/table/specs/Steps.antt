@@ -36,7 +36,7 @@ module _ (admits : ℕ → ℕ → Bool) (told : ℕ) (ns : List ℕ) (rs : List
   Judged r c f (Ok x) = (first-fault (faults-as admits told ns rs r c f) ≡ None) × (x ≡ row-as ns c f)
   Judged r c f (Err e) = first-fault (faults-as admits told ns rs r c f) ≡ Some (of-row e)
 
-  -- the first found of row r of the table t, or what it says and the number of the next row
+  -- the first fault of row r of the table t, or what it says and the number of the next row
   abbrev pub Stepped : List ℕ → ℕ → Result Step RowFault → Type 0
   Stepped t r (Ok s) =
       (first-fault (faults-of admits told ns rs r (letter-from (fields-of t r .letter)) (fields-of t r)) ≡ None)
@@ -45,7 +45,7 @@ module _ (admits : ℕ → ℕ → Bool) (told : ℕ) (ns : List ℕ) (rs : List
   Stepped t r (Err e) =
       first-fault (faults-of admits told ns rs r (letter-from (fields-of t r .letter)) (fields-of t r)) ≡ Some (of-row e)
 
--- the first found of its head, or what the head tells where it has none
+-- the first fault of its head, or what the head tells where it has none
 abbrev pub Opened : List ℕ → Result Head TableFault → Type 0
 Opened t (Ok h) = (first-fault (head-faults t) ≡ None) × (h .told ≡ rows-told t) × (h .first ≡ first-told t)
 Opened t (Err f) = first-fault (head-faults t) ≡ Some (of-table f)
@@ -62,7 +62,7 @@ pub record Draft-of (admits : ℕ → ℕ → Bool) (t : List ℕ) (d : Draft) :
   pub idle-numbers : drop (d .count) (d .numbers) ≡ replicate (64 - d .count) 0
   pub each : (k : ℕ) → k < d .count → first-fault (row-faults admits t k) ≡ None
 
--- the first found of its rows, or the chain where they have none
+-- the first fault of its rows, or the chain where they have none
 abbrev pub Walked : (ℕ → ℕ → Bool) → List ℕ → Result Draft RowFault → Type 0
 Walked admits t (Ok d) = (first-fault (chain-faults admits t) ≡ None) × Draft-of admits t d
 Walked admits t (Err e) = first-fault (chain-faults admits t) ≡ Some (of-row e)
