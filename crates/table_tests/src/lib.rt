@@ -178,7 +178,7 @@ static FULL: [u8; 168] = [
 ];
 
 // One byte of the table changed: where, to what, and the refusal's number and place, or 0 and 0 for a sound table.
-static CHANGED: [(u8, u8, u8, u32); 231] = [
+static CHANGED: [(u8, u8, u32, u32); 231] = [
     (0, 88, 2, 0),
     (1, 88, 2, 0),
     (2, 88, 2, 0),
@@ -413,7 +413,7 @@ static CHANGED: [(u8, u8, u8, u32); 231] = [
 ];
 
 // Two bytes changed, so that two faults stand: the first in the order of the checks is told.
-static TWICE: [(u8, u8, u8, u8, u8, u32); 12] = [
+static TWICE: [(u8, u8, u8, u8, u32, u32); 12] = [
     // mark before head; head before length
     (0, 0, 4, 0, 2, 0),
     (6, 1, 4, 11, 3, 0),
@@ -445,7 +445,7 @@ impl Admission for Short as ShortAdmission {
 }
 
 // The number and place of the refusal, 0 and 0 for a sound table.
-fn reply<A: Admission>(bytes: &[u8]) -> (u8, u32) {
+fn reply<A: Admission>(bytes: &[u8]) -> (u32, u32) {
     match decode::<A>(bytes) {
         Ok(_) => (0, 0),
         Err(fault) => {
