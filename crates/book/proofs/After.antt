@@ -155,7 +155,7 @@ module _ (admitted : ℕ → ℕ → Bool) (room : ℕ) (k : Book) (c : Car) (ro
       by-place (timed-place k row) (subst (Answered admitted room k (query c row d) [] x) first right) refl
 
 -- a timed row stands on the chain
-timed-on : (t : List ℕ) (row p : ℕ) → timed-in t row ≡ Some p → (p < length (rows-in t)) × (is-timed (row-at (rows-in t) p) ≡ true)
+pub timed-on : (t : List ℕ) (row p : ℕ) → timed-in t row ≡ Some p → (p < length (rows-in t)) × (is-timed (row-at (rows-in t) p) ≡ true)
 timed-on t row p e = found (place-among (numbers-in t) row) refl e
   where
     long : length (numbers-in t) ≡ length (rows-in t)

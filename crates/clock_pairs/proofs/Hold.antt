@@ -1,12 +1,12 @@
 -- Content and the episodes that it holds. Assumes nothing.
 use mathlib.Core.Path.{_≡_, refl, sym, ap, ap₂, subst, _∙_}
-use mathlib.Core.Bool.{true, cond, _&&_}
+use mathlib.Core.Bool.{true, false, cond, _&&_}
 use mathlib.Core.List.{List, [], _∷_, _++_}
 use Prim.Native.Nat.{ℕ, zero, suc, _+_, _-_, _<_, _≤_}
 use native.Mathlib.Omega.{arith}
 use lib.Dec.{leb, ltb}
 use lib.ListN.{length, getD, take, drop, replicate, set}
-use Rattle.std.proofs.shelf.Tests.{cond-true, and-from, and-parts, le-leb, leb-true, ltb-true}
+use Rattle.std.proofs.shelf.Tests.{cond-true, cond-false, and-from, and-parts, le-leb, leb-true, ltb-true}
 use Rattle.std.proofs.shelf.Lists.{append-assoc, drop-all, drop-at, drop-more, getD-take, length-push, length-take, length-take-le, set-at, take-at}
 use Rattle.mitl.specs.Memory.{new-memory, most-stretches}
 use Rattle.mitl.specs.Windows.{sound-window}
@@ -48,6 +48,9 @@ sound-from c w l g r = and-from _ _ w (and-from _ _ (le-leb _ _ l) (and-from _ _
 pub when-sound : (c : ClockPairs) → sound c ≡ true → meaning-of c ≡ told (c .a) (c .b) (held c)
 when-sound c e = cond-true (sound c) (told (c .a) (c .b) (held c)) new-memory e
 
+pub when-not : (c : ClockPairs) → sound c ≡ false → meaning-of c ≡ new-memory
+when-not c e = cond-false (sound c) (told (c .a) (c .b) (held c)) new-memory e
+
 vacant-zeros : (n : ℕ) → vacant (replicate n (episode 0 0)) ≡ true
 vacant-zeros zero = refl
 vacant-zeros (suc n) = vacant-zeros n
@@ -66,6 +69,23 @@ module _ (a b : ℕ) (es : List Episode) where
 
   pub holding-means : served a b ≡ true → Apart a b 0 es → meaning-of (holding a b es) ≡ told a b es
   holding-means w g = when-sound (holding a b es) (holding-sound w g) ∙ ap (told a b) held-holding
+
+-- empty places behind empty ones
+pub vacant-after : (k : ℕ) (ys : List Episode) → vacant (replicate k (episode 0 0) ++ ys) ≡ vacant ys
+vacant-after zero ys = refl
+vacant-after (suc k) ys = vacant-after k ys
+
+-- content with these episodes and empty places behind them
+module _ (m : ClockPairs) (a b : ℕ) (es zs : List Episode) (ea : m .a ≡ a) (eb : m .b ≡ b) (size : m .len ≡ length es) (stand : m .episodes ≡ es ++ zs) where
+  pub content-means : vacant zs ≡ true → served a b ≡ true → Apart a b 0 es → meaning-of m ≡ told a b es
+  content-means none w g =
+      let s = served-parts a b w in
+      let room : m .len ≤ 32 = omega (arith, few a b 0 es g) in
+      let has : held m ≡ es = ap₂ take size stand ∙ take-at es zs (length es) refl in
+      let w′ : served (m .a) (m .b) ≡ true = ap₂ served ea eb ∙ w in
+      let g′ : Apart (m .a) (m .b) 0 (held m) = rw (ea, eb, has) g in
+      when-sound m (sound-from m w′ room g′ (ap vacant (ap₂ drop size stand ∙ drop-at es zs (length es) refl) ∙ none))
+      ∙ ap₂ (λ x y. told x y (held m)) ea eb ∙ ap (told a b) has
 
 -- one more episode
 pub pushed : (a b : ℕ) (es : List Episode) (e : Episode) → length es < 32

@@ -6,3 +6,4 @@ pub mod Hold
 pub mod Loops
 pub mod Takes
 pub mod Oldest
+pub mod Ageing

@@ -44,8 +44,10 @@ module _ (m : ClockPairs) (full : length (m .episodes) ≡ 32) (few : m .len ≤
   pub held-end : m .len ≤ i → drop i (held m) ≡ []
   held-end le = none-left (m .len) (m .episodes) i le
 
-  pub vacant-step : i < 32 → vacant (drop i (m .episodes)) ≡ ((eqb (here .rise) 0 && eqb (here .fall) 0) && vacant (drop (i + 1) (m .episodes)))
-  vacant-step lt = ap vacant (drop-more (m .episodes) i (episode 0 0) (omega arith))
+module _ (xs : List Episode) (i : ℕ) where
+  pub vacant-step : i < length xs
+      → vacant (drop i xs) ≡ ((eqb (getD xs i (episode 0 0) .rise) 0 && eqb (getD xs i (episode 0 0) .fall) 0) && vacant (drop (i + 1) xs))
+  vacant-step lt = ap vacant (drop-more xs i (episode 0 0) lt)
 
-  pub vacant-end : 32 ≤ i → vacant (drop i (m .episodes)) ≡ true
-  vacant-end le = ap vacant (drop-all i (m .episodes) (omega arith))
+  pub vacant-end : length xs ≤ i → vacant (drop i xs) ≡ true
+  vacant-end le = ap vacant (drop-all i xs le)

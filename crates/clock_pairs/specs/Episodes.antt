@@ -1,8 +1,9 @@
 -- Episodes of a window's operand: what they reach, and how they age. Assumes nothing.
 use mathlib.Core.Bool.{Bool, true, false, cond, _&&_, _||_}
-use mathlib.Core.List.{List, [], _∷_}
+use mathlib.Core.List.{List, [], _∷_, _++_}
 use Prim.Native.Nat.{ℕ, _+_, _-_, min}
 use lib.Dec.{leb, ltb, eqb}
+use lib.ListN.{take, drop}
 use Rattle.mitl.specs.Memory.{most-stretches}
 use Rattle.mitl.specs.Windows.{sound-window}
 use Rattle.clock_pairs.specs.declared.Episode.{Episode}
@@ -37,6 +38,10 @@ older b n e = episode (min b (e .rise + n)) (min b (e .fall + n))
 abbrev pub lasting : ℕ → ℕ → List Episode → List Episode
 lasting b n [] = []
 lasting b n (e ∷ es) = cond (ltb (e .fall + n) b) (older b n e ∷ lasting b n es) (lasting b n es)
+
+-- the episodes before this place as they are, the others n ticks on
+abbrev pub aged : ℕ → ℕ → ℕ → List Episode → List Episode
+aged b n from es = take from es ++ lasting b n (drop from es)
 
 -- empty places
 abbrev pub vacant : List Episode → Bool

@@ -8,8 +8,9 @@ ghost use mathlib.Core.Bool.{Bool, true, false};
 ghost use mathlib.Core.List.{[], _∷_, _++_};
 ghost use mathlib.Core.Logic.{_⊎_};
 ghost use Prim.Native.Nat.{_+_, _-_, min, _<_, _≤_};
-ghost use lib.ListN.{length, drop};
-ghost use Rattle.clock_pairs.specs.Episodes.{apart, covers, episode, lasting, older, reached, served, vacant};
+ghost use lib.Dec.{leb};
+ghost use lib.ListN.{length, take, drop, replicate};
+ghost use Rattle.clock_pairs.specs.Episodes.{aged, apart, covers, episode, lasting, older, reached, served, vacant};
 ghost use Rattle.clock_pairs.specs.Meanings.{goes-on, held, holding, meaning-of, sound, told};
 ghost use Rattle.mitl.specs.Memory.{ahead, cleared, counted, Lasts, most-stretches, took};
 use window::Admission;
@@ -81,19 +82,57 @@ impl Episode {
     }
 }
 
-// The most episodes that the window from a to b can have.
-fn most_episodes(a: u32, b: u32) -> u32
+// Whether the window from a to b never has more than 32 episodes: each takes b - a + 2 ticks at least.
+fn has_room(a: u32, b: u32) -> bool
     requires { ⌜ (a ≤ b) × (0 < b) × (b ≤ 864000) ⌝ }
-    ensures { λ r. ⌜ r ≡ most-stretches a b ⌝ }
+    ensures { λ r. ⌜ r ≡ leb (most-stretches a b) 32 ⌝ }
 {
-    1 + (b - 1) / (b - a + 2)
+    b - 1 < 32 * (b - a + 2)
 }
 
 // Whether the window from a to b is served.
 fn serves(a: u32, b: u32) -> bool
     ensures { λ r. ⌜ r ≡ served a b ⌝ }
 {
-    a < b && b <= DAY && most_episodes(a, b) as usize <= MOST
+    a < b && b <= DAY && has_room(a, b)
+}
+
+// Whether the places from this one on are empty.
+fn empty_from(places: &[Episode], from: usize) -> bool
+    requires { ⌜ from ≤ length (now places) ⌝ }
+    ensures { λ r. ⌜ r ≡ vacant (drop from (now (places .entry))) ⌝ }
+{
+    let mut any = 0;
+    for i in from..places.len() {
+        any |= places[i].rise | places[i].fall;
+    }
+    any == 0
+}
+
+// The episodes in the first `len` places, from place `from` on, n ticks on where they stand and without those that fell
+// b ticks ago: how many places are in use then. The places behind those are empty up to `len`.
+fn age(places: &mut [Episode], from: u32, len: u32, n: u32, b: u32) -> u32
+    requires { ⌜ (from ≤ len) × (len ≤ length (now places)) ⌝ }
+    ensures many { λ r. ⌜ r ≡ length (aged b n from (take len (now (places .entry)))) ⌝ }
+    ensures stand { λ r. ⌜ now (places .exit) ≡ aged b n from (take len (now (places .entry))) ++ (replicate (len - r) (episode 0 0) ++ drop len (now (places .entry))) ⌝ }
+{
+    let mut used = from;
+    for i in from as usize..len as usize {
+        let e = places[i].grow(n, b);
+        places[i] = Episode { rise: 0, fall: 0 };
+        if e.fall < b {
+            places[used as usize] = e;
+            used += 1;
+        }
+    }
+    used
+}
+
+// How many episodes stand in the first so many places.
+fn in_use(places: &[Episode], len: u32) -> u32
+    ensures { λ r. ⌜ r ≡ length (take len (now (places .entry))) ⌝ }
+{
+    (len as usize).min(places.len()) as u32
 }
 
 // The verdict of the next tick and how long it lasts, without an episode.
@@ -186,40 +225,14 @@ impl ClockPairs {
         true
     }
 
-    // Whether the places behind the episodes are empty.
-    fn ends_empty(self) -> bool
-        requires { ⌜ self .len ≤ 32 ⌝ }
-        ensures { λ r. ⌜ r ≡ vacant (drop (self .len) (self .episodes)) ⌝ }
-    {
-        for i in self.len as usize..MOST {
-            let e = self.episodes[i];
-            if e.rise != 0 || e.fall != 0 {
-                return false;
-            }
-        }
-        true
-    }
-
     // Whether this kind made the content.
     fn is_sound(&self) -> bool
         ensures { λ r. ⌜ r ≡ sound (now (self .entry)) ⌝ }
     {
-        serves(self.a, self.b) && self.len as usize <= MOST && self.in_order() && self.ends_empty()
-    }
-
-    // The memory itself where this kind made its content, else a new one.
-    fn settled(self) -> ClockPairs
-        ensures sound { λ r. ⌜ sound r ≡ true ⌝ }
-        ensures window { λ r. ⌜ served (r .a) (r .b) ≡ true ⌝ }
-        ensures means { λ r. ⌜ meaning-of self ≡ told (r .a) (r .b) (held r) ⌝ }
-        ensures counts { λ r. ⌜ counted (meaning-of self) ≡ r .len ⌝ }
-        ensures few { λ r. ⌜ r .len ≤ most-stretches (meaning-of self .a) (meaning-of self .b) ⌝ }
-    {
-        if self.is_sound() {
-            self
-        } else {
-            ClockPairs::fresh()
-        }
+        serves(self.a, self.b)
+            && self.len as usize <= MOST
+            && self.in_order()
+            && empty_from(&self.episodes, self.len as usize)
     }
 
     // Whether a yes goes on with the newest episode: that fell at most b - a ticks ago, so that the gap is erased.
@@ -239,67 +252,143 @@ impl ClockPairs {
         next
     }
 
-    // The memory after n ticks, n at least 1, at which the operand is yes.
-    fn after_yes(self, n: u32) -> ClockPairs
+    // The memory after n ticks, n at least 1, at which the operand is yes and a new episode rises.
+    fn after_rise(self, n: u32) -> ClockPairs
         requires sound { ⌜ sound self ≡ true ⌝ }
         requires ticks { ⌜ 0 < n ⌝ }
+        requires new { ⌜ false ≡ goes-on self ⌝ }
         ensures { λ r. ⌜ meaning-of r ≡ took true n (told (self .a) (self .b) (held self)) ⌝ }
     {
+        let rise = grown(0, n, self.b);
+        self.carried(0, n, ClockPairs::rising(self.a, self.b, rise))
+    }
+
+    // The episodes from place `from` on are n ticks on, without those that fell b ticks ago.
+    fn grow_old(&mut self, from: u32, n: u32)
+        requires { ⌜ (from ≤ now self .len) × (now self .len ≤ 32) ⌝ }
+        ensures window { λ _. ⌜ (now (self .exit) .a ≡ now (self .entry) .a) × (now (self .exit) .b ≡ now (self .entry) .b) ⌝ }
+        ensures many { λ _. ⌜ now (self .exit) .len ≡ length (aged (now (self .entry) .b) n from (held (now (self .entry)))) ⌝ }
+        ensures stand { λ _. ⌜ now (self .exit) .episodes ≡ aged (now (self .entry) .b) n from (held (now (self .entry))) ++ (replicate (now (self .entry) .len - now (self .exit) .len) (episode 0 0) ++ drop (now (self .entry) .len) (now (self .entry) .episodes)) ⌝ }
+    {
+        let len = self.len;
+        let b = self.b;
+        self.len = age(&mut self.episodes, from, len, n, b);
+    }
+
+    // Content that this kind did not make gives way to a new memory.
+    fn settle(&mut self)
+        ensures sound { λ _. ⌜ sound (now (self .exit)) ≡ true ⌝ }
+        ensures means { λ _. ⌜ meaning-of (now (self .entry)) ≡ told (now (self .exit) .a) (now (self .exit) .b) (held (now (self .exit))) ⌝ }
+    {
+        if self.is_sound() {
+            return;
+        }
+        *self = ClockPairs::fresh();
+    }
+
+    // Takes n ticks at which the operand is no, or none.
+    fn take_no(&mut self, n: u32)
+        requires { ⌜ sound (now self) ≡ true ⌝ }
+        ensures { λ _. ⌜ ((v : Bool) → (v ≡ false) ⊎ (n ≡ 0) → meaning-of (now (self .exit)) ≡ took v n (told (now (self .entry) .a) (now (self .entry) .b) (held (now (self .entry))))) ⌝ }
+    {
+        self.grow_old(0, n);
+    }
+
+    // Takes n ticks, n at least 1, at which the operand is yes and goes on with the newest episode.
+    fn take_on(&mut self, n: u32)
+        requires sound { ⌜ sound (now self) ≡ true ⌝ }
+        requires ticks { ⌜ 0 < n ⌝ }
+        requires on { ⌜ true ≡ goes-on (now self) ⌝ }
+        ensures { λ _. ⌜ meaning-of (now (self .exit)) ≡ took true n (told (now (self .entry) .a) (now (self .entry) .b) (held (now (self .entry)))) ⌝ }
+    {
+        let rise = grown(self.episodes[0].rise, n, self.b);
+        self.episodes[0] = Episode { rise, fall: 0 };
+        self.grow_old(1, n);
+    }
+
+    // Takes n ticks, n at least 1, at which the operand is yes.
+    fn take_yes(&mut self, n: u32)
+        requires sound { ⌜ sound (now self) ≡ true ⌝ }
+        requires ticks { ⌜ 0 < n ⌝ }
+        ensures { λ _. ⌜ meaning-of (now (self .exit)) ≡ took true n (told (now (self .entry) .a) (now (self .entry) .b) (held (now (self .entry)))) ⌝ }
+    {
         if self.goes_on() {
-            let rise = grown(self.episodes[0].rise, n, self.b);
-            self.carried(1, n, ClockPairs::rising(self.a, self.b, rise))
+            self.take_on(n);
         } else {
-            let rise = grown(0, n, self.b);
-            self.carried(0, n, ClockPairs::rising(self.a, self.b, rise))
+            *self = self.after_rise(n);
         }
     }
 
-    // The memory after n ticks at which the operand is no, or after none.
-    fn after_no(self, n: u32) -> ClockPairs
-        requires { ⌜ sound self ≡ true ⌝ }
-        ensures { λ r. ⌜ ((v : Bool) → (v ≡ false) ⊎ (n ≡ 0) → meaning-of r ≡ took v n (told (self .a) (self .b) (held self))) ⌝ }
+    // Takes n ticks at which the operand has this value.
+    fn tell(&mut self, operand: bool, n: u32)
+        ensures { λ _. ⌜ meaning-of (now (self .exit)) ≡ took operand n (meaning-of (now (self .entry))) ⌝ }
     {
-        self.carried(0, n, ClockPairs::empty(self.a, self.b))
-    }
-
-    // The memory after n ticks at which the operand has this value.
-    fn after(self, operand: bool, n: u32) -> ClockPairs
-        ensures { λ r. ⌜ meaning-of r ≡ took operand n (meaning-of self) ⌝ }
-    {
-        let c = self.settled();
+        self.settle();
         if operand && n > 0 {
-            c.after_yes(n)
+            self.take_yes(n);
         } else {
-            c.after_no(n)
+            self.take_no(n);
         }
     }
 
-    // The memory without its episodes.
-    fn emptied(self) -> ClockPairs
-        ensures { λ r. ⌜ meaning-of r ≡ cleared (meaning-of self) ⌝ }
+    // Forgets the episodes.
+    fn forget(&mut self)
+        ensures { λ _. ⌜ meaning-of (now (self .exit)) ≡ cleared (meaning-of (now (self .entry))) ⌝ }
     {
-        let c = self.settled();
-        ClockPairs::empty(c.a, c.b)
+        self.settle();
+        *self = ClockPairs::empty(self.a, self.b);
     }
 
     // The verdict of the next tick and how long it lasts: the oldest episode tells.
-    fn forecast(self, operand: bool) -> (bool, Option<u32>)
-        requires { ⌜ sound self ≡ true ⌝ }
-        ensures next { λ r. ⌜ r .0 ≡ ahead (self .a) operand (reached (self .a) (self .b) (held self)) 0 ⌝ }
-        ensures lasts { λ r. ⌜ Lasts (ahead (self .a) operand (reached (self .a) (self .b) (held self))) (r .0) (r .1) ⌝ }
+    fn forecast(&self, operand: bool) -> (bool, Option<u32>)
+        requires { ⌜ sound (now self) ≡ true ⌝ }
+        ensures next { λ r. ⌜ r .0 ≡ ahead (now (self .entry) .a) operand (reached (now (self .entry) .a) (now (self .entry) .b) (held (now (self .entry)))) 0 ⌝ }
+        ensures lasts { λ r. ⌜ Lasts (ahead (now (self .entry) .a) operand (reached (now (self .entry) .a) (now (self .entry) .b) (held (now (self .entry))))) (r .0) (r .1) ⌝ }
     {
+        let a = self.a;
         if self.len == 0 {
-            return idle(self.a, operand);
+            return idle(a, operand);
         }
         let oldest = self.episodes[self.len as usize - 1];
-        let start = oldest.start(self.a);
+        let start = oldest.start(a);
         let end = oldest.end(self.b);
         if start > 0 {
             (false, Some(start))
-        } else if operand && self.a <= end {
+        } else if operand && a <= end {
             (true, None)
         } else {
             (true, Some(end))
+        }
+    }
+
+    // The reply on the run that begins.
+    fn reply(&self, operand: bool) -> (bool, Option<u32>)
+        ensures next { λ r. ⌜ r .0 ≡ ahead (meaning-of (now (self .entry)) .a) operand (meaning-of (now (self .entry)) .mark) 0 ⌝ }
+        ensures lasts { λ r. ⌜ Lasts (ahead (meaning-of (now (self .entry)) .a) operand (meaning-of (now (self .entry)) .mark)) (r .0) (r .1) ⌝ }
+    {
+        if self.is_sound() {
+            self.forecast(operand)
+        } else {
+            idle(0, operand)
+        }
+    }
+
+    // The mark of the tick d ahead.
+    fn mark(&self, d: u32) -> bool
+        ensures { λ r. ⌜ r ≡ meaning-of (now (self .entry)) .mark d ⌝ }
+    {
+        self.is_sound() && self.marks(d)
+    }
+
+    // How many episodes there are.
+    fn size(&self) -> u32
+        ensures counts { λ r. ⌜ r ≡ counted (meaning-of (now (self .entry))) ⌝ }
+        ensures few { λ r. ⌜ r ≤ most-stretches (meaning-of (now (self .entry)) .a) (meaning-of (now (self .entry)) .b) ⌝ }
+    {
+        if self.is_sound() {
+            in_use(&self.episodes, self.len)
+        } else {
+            0
         }
     }
 }
@@ -329,19 +418,19 @@ pub impl WindowMemory for ClockPairs as ClockPairsMemory {
     }
 
     fn clear(&mut self) {
-        *self = self.emptied();
+        self.forget();
     }
 
     fn look(&self, d: u32) -> bool {
-        self.settled().marks(d)
+        self.mark(d)
     }
 
     fn take(&mut self, operand: bool, n: u32) {
-        *self = self.after(operand, n);
+        self.tell(operand, n);
     }
 
     fn run(&self, operand: bool) -> (bool, Option<u32>) {
-        self.settled().forecast(operand)
+        self.reply(operand)
     }
 
     // There are never more stretches than the window can have, and so never more episodes.
@@ -349,6 +438,6 @@ pub impl WindowMemory for ClockPairs as ClockPairsMemory {
         ensures value { λ r. ⌜ r ≡ counted (meaning-of (now (self .entry))) ⌝ }
         ensures few { λ r. ⌜ r ≤ most-stretches (meaning-of (now (self .entry)) .a) (meaning-of (now (self .entry)) .b) ⌝ }
     {
-        self.settled().len
+        self.size()
     }
 }

@@ -1,7 +1,7 @@
 //! Ticks taken: what the memories of a car are told.
 ghost use mathlib.Core.Path.{_≡_};
-ghost use mathlib.Core.Bool.{true, false};
-ghost use Prim.Native.Nat.{_<_, _≤_};
+ghost use mathlib.Core.Bool.{true, false, cond};
+ghost use Prim.Native.Nat.{_+_, _<_, _≤_};
 ghost use lib.ListN.{length};
 ghost use Rattle.mitl.specs.Blocks.{advanced};
 ghost use Rattle.mitl.specs.Memory.{cleared};
@@ -17,19 +17,33 @@ use mitl::Row;
 use plan::plan::Plan;
 use window::WindowMemory;
 
-// The memory of one row takes n ticks at which the rows have these readings.
-fn advance_row<M: WindowMemory>(row: Row, vs: &[bool; 64], n: u32, part: &mut [M], at: usize)
-    requires { ⌜ Readable row × (is-timed row ≡ true → at < length (now part)) ⌝ }
+// The memory of one row takes n ticks at which the rows have these readings: the place in the part past it.
+fn advance_row<M: WindowMemory>(
+    row: Row,
+    vs: &[bool; 64],
+    n: u32,
+    part: &mut [M],
+    at: usize,
+) -> usize
+    requires { ⌜ Readable row × (is-timed row ≡ true → at < length (now part)) × (at < 64) ⌝ }
+    ensures behind { λ r. ⌜ r ≡ cond (is-timed row) 1 0 + at ⌝ }
     ensures told { λ _. ⌜ Told meaning (advanced row (reading-of (now (vs .entry))) n) at (now (part .entry)) (now (part .exit)) ⌝ }
     ensures still { λ _. ⌜ (is-timed row ≡ false → now (part .exit) ≡ now (part .entry)) ⌝ }
 {
     match row {
-        Row::Once { left, .. } => take_at(part, at, vs[left as usize], n),
-        Row::Always { left, .. } => take_always(part, at, vs[left as usize], n),
-        Row::Since { left, right, .. } => {
-            take_since(part, at, vs[left as usize], vs[right as usize], n)
+        Row::Once { left, .. } => {
+            take_at(part, at, vs[left as usize], n);
+            at + 1
         }
-        _ => {}
+        Row::Always { left, .. } => {
+            take_always(part, at, vs[left as usize], n);
+            at + 1
+        }
+        Row::Since { left, right, .. } => {
+            take_since(part, at, vs[left as usize], vs[right as usize], n);
+            at + 1
+        }
+        _ => at,
     }
 }
 
@@ -40,9 +54,7 @@ pub(crate) fn advance<M: WindowMemory>(plan: &Plan, vs: &[bool; 64], n: u32, par
 {
     let mut at = 0;
     for k in 0..plan.count {
-        let row = plan.rows[k];
-        advance_row(row, vs, n, part, at);
-        at = past(row, at);
+        at = advance_row(plan.rows[k], vs, n, part, at);
     }
 }
 

@@ -9,6 +9,7 @@ ghost use Rattle.engine.specs.Judged.{Bounded, Judged, idle};
 ghost use Rattle.engine.specs.Means.{Means};
 use crate::Fed;
 use crate::advance::timed;
+use crate::reading::next;
 use crate::running::run;
 use plan::plan::Plan;
 use record::Car;
@@ -44,8 +45,11 @@ pub(crate) fn fill<M: WindowMemory>(
 {
     let mut used = 0;
     let mut left = ticks;
+    let mut step = next(plan, word, part);
     while writes_on(left, used, notes.len()) {
-        let (verdict, n) = run(plan, word, left, part);
+        let verdict = step.word;
+        let (after, n) = run(plan, word, left, step, part);
+        step = after;
         notes[used] = Note {
             car,
             word: verdict,

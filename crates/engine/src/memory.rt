@@ -1,4 +1,4 @@
-//! One memory of a car's part: copied out, told and stored back.
+//! One memory of a car's part: asked in its place, and told by copying it out and storing it back.
 ghost use mathlib.Core.Bool.{false, not, cond, _&&_};
 ghost use Prim.Native.Nat.{_<_};
 ghost use lib.ListN.{length};
@@ -12,8 +12,7 @@ pub(crate) fn run_at<M: WindowMemory>(part: &[M], at: usize, operand: bool) -> (
     requires { ⌜ at < length (now part) ⌝ }
     ensures { λ r. ⌜ Lasts (ahead (meant meaning (now (part .entry)) at .a) operand (meant meaning (now (part .entry)) at .mark)) (r .0) (r .1) ⌝ }
 {
-    let m = part[at];
-    m.run(operand)
+    part[at].run(operand)
 }
 
 // B runs on by the opposite of the left reading, turned round.

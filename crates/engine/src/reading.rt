@@ -17,28 +17,36 @@ use mitl::input_bit;
 use plan::plan::Plan;
 use window::WindowMemory;
 
-// The reading of one row, and for how long it lasts while its operands keep theirs.
+// The reading of one row, for how long it lasts while its operands keep theirs, and the place in the part past it.
 fn settle<M: WindowMemory>(
     row: Row,
     word: u32,
     vs: &[bool; 64],
     part: &[M],
     at: usize,
-) -> (bool, Option<u32>)
-    requires { ⌜ Readable row × (is-timed row ≡ true → at < length (now part)) ⌝ }
-    ensures { λ r. ⌜ Lasts (seen row (meant meaning (now (part .entry)) at) (reading-of (now (vs .entry))) word) (r .0) (r .1) ⌝ }
+) -> (bool, Option<u32>, usize)
+    requires { ⌜ Readable row × (is-timed row ≡ true → at < length (now part)) × (at < 64) ⌝ }
+    ensures behind { λ r. ⌜ r .2 ≡ cond (is-timed row) 1 0 + at ⌝ }
+    ensures lasts { λ r. ⌜ Lasts (seen row (meant meaning (now (part .entry)) at) (reading-of (now (vs .entry))) word) (r .0) (r .1) ⌝ }
 {
     match row {
-        Row::Input { bit } => (input_bit(word, bit), None),
-        Row::Not { left } => (!vs[left as usize], None),
-        Row::And { left, right } => (vs[left as usize] && vs[right as usize], None),
-        Row::Or { left, right } => (vs[left as usize] || vs[right as usize], None),
-        Row::Once { left, .. } => run_at(part, at, vs[left as usize]),
-        Row::Always { left, .. } => run_always(part, at, vs[left as usize]),
-        Row::Since { left, right, .. } => {
-            run_since(part, at, vs[left as usize], vs[right as usize])
+        Row::Input { bit } => (input_bit(word, bit), None, at),
+        Row::Not { left } => (!vs[left as usize], None, at),
+        Row::And { left, right } => (vs[left as usize] && vs[right as usize], None, at),
+        Row::Or { left, right } => (vs[left as usize] || vs[right as usize], None, at),
+        Row::Once { left, .. } => {
+            let (yes, n) = run_at(part, at, vs[left as usize]);
+            (yes, n, at + 1)
         }
-        Row::Rule { left, .. } => (vs[left as usize], None),
+        Row::Always { left, .. } => {
+            let (yes, n) = run_always(part, at, vs[left as usize]);
+            (yes, n, at + 1)
+        }
+        Row::Since { left, right, .. } => {
+            let (yes, n) = run_since(part, at, vs[left as usize], vs[right as usize]);
+            (yes, n, at + 1)
+        }
+        Row::Rule { left, .. } => (vs[left as usize], None, at),
     }
 }
 
@@ -71,11 +79,11 @@ pub(crate) fn next<M: WindowMemory>(plan: &Plan, word: u32, part: &[M]) -> Step
     let mut at = 0;
     for k in 0..plan.count {
         let row = plan.rows[k];
-        let (yes, n) = settle(row, word, &readings, part, at);
+        let (yes, n, behind) = settle(row, word, &readings, part, at);
         readings[k] = yes;
         verdict = with_row(verdict, row, yes);
         lasts = shorter_of(n, lasts);
-        at = past(row, at);
+        at = behind;
     }
     Step {
         readings,

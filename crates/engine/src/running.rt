@@ -33,22 +33,30 @@ fn goes_on(step: &Step, verdict: u16) -> bool
     step.word == verdict
 }
 
-// Takes the longest run of one verdict word, of at most so many ticks: the word and the ticks.
-pub(crate) fn run<M: WindowMemory>(plan: &Plan, word: u32, most: u32, part: &mut [M]) -> (u16, u32)
-    requires { ⌜ (timed-rows (rows-of (now plan)) ≤ length (now part)) × (0 < most) ⌝ }
-    ensures { λ r. ⌜ Whole meaning (rows-of (now (plan .entry))) word most (now (part .entry)) (now (part .exit)) (r .0) (r .1) ⌝ }
+// Takes the longest run of the verdict word of the first step, of at most so many ticks: the step that ends it, where
+// ticks are left, and the ticks.
+pub(crate) fn run<M: WindowMemory>(
+    plan: &Plan,
+    word: u32,
+    most: u32,
+    first: Step,
+    part: &mut [M],
+) -> (Step, u32)
+    requires { ⌜ (timed-rows (rows-of (now plan)) ≤ length (now part)) × (0 < most) × Foreseen meaning (rows-of (now plan)) word (now part) (length (rows-of (now plan))) (first .readings) (first .word) (first .lasts) ⌝ }
+    ensures whole { λ r. ⌜ Whole meaning (rows-of (now (plan .entry))) word most (now (part .entry)) (now (part .exit)) (first .word) (r .1) ⌝ }
+    ensures after { λ r. ⌜ (r .1 < most → Foreseen meaning (rows-of (now (plan .entry))) word (now (part .exit)) (length (rows-of (now (plan .entry)))) (r .0 .readings) (r .0 .word) (r .0 .lasts)) ⌝ }
 {
-    let mut step = next(plan, word, part);
-    let verdict = step.word;
+    let mut step = first;
+    let verdict = first.word;
     let mut n = 0;
     loop {
         n += hold(plan, word, &step, most - n, part);
         if n >= most {
-            return (verdict, n);
+            return (step, n);
         }
         step = next(plan, word, part);
         if !goes_on(&step, verdict) {
-            return (verdict, n);
+            return (step, n);
         }
     }
 }

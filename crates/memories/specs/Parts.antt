@@ -9,7 +9,7 @@ use Rattle.std.specs.shelf.Lists.{between}
 use Rattle.std.specs.declared.option.Option.{Option}
 use Rattle.std.specs.declared.option.Option.the-variants.{Some, None}
 use Rattle.mitl.specs.declared.Row.{Row}
-use Rattle.mitl.specs.Memory.{Meaning, clean, counted}
+use Rattle.mitl.specs.Memory.{Meaning, clean}
 use Rattle.mitl.specs.Outlook.{row-from, row-to}
 use Rattle.mitl.specs.Rows.{row-at, is-timed, timed-before, timed-rows}
 use Rattle.record.specs.declared.Car.{Car}
@@ -17,7 +17,6 @@ use Rattle.record.specs.declared.Note.{Note}
 use Rattle.engine.specs.declared.Fed.{Fed}
 use Rattle.engine.specs.Means.{Means}
 use Rattle.engine.specs.Judged.{Judged}
-use Rattle.memories.specs.declared.Shown.{Shown}
 
 -- the part of the car at place i, where each car has n memories
 abbrev pub part-at : {X : Type 0} → ℕ → ℕ → List X → List X
@@ -79,7 +78,7 @@ pub record Car-fed {X : Type 0} (meaning : X → Meaning) (rows : List Row) (i :
   pub judged : (h : List ℕ) → Means meaning rows (part-at (timed-rows rows) i ms) h
       → Judged meaning rows h c w n (part-at (timed-rows rows) i ms) ns (part-at (timed-rows rows) i ms′) ns′ reply
 
--- what the memory at place i of the list shows, if there is one
-abbrev pub Shown-at : {X : Type 0} → (X → Meaning) → ℕ → ℕ → List X → Option Shown → Type 0
-Shown-at meaning i d ms None = length ms ≤ i
-Shown-at {X} meaning i d ms (Some s) = (i < length ms) × ((m : X) → (s .mark ≡ meaning (getD ms i m) .mark d) × (s .count ≡ counted (meaning (getD ms i m))))
+-- where the memory of the row at place p lies in the part of the car at place i, if the list is that long
+abbrev pub Indexed : List Row → ℕ → ℕ → ℕ → Option ℕ → Type 0
+Indexed rows i p long None = (long < i * timed-rows rows + timed-rows rows) ⊎ (long ≤ i * timed-rows rows + timed-before rows p)
+Indexed rows i p long (Some n) = (n ≡ i * timed-rows rows + timed-before rows p) × (n < long)

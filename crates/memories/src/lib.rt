@@ -5,12 +5,12 @@ ghost use mathlib.Core.Bool.{Bool, true, false, cond};
 ghost use mathlib.Core.List.{List, []};
 ghost use Prim.Native.Nat.{ℕ, _+_, _*_, _<_, _≤_, min};
 ghost use lib.ListN.{length, getD};
-ghost use Rattle.mitl.specs.Memory.{clean};
+ghost use Rattle.mitl.specs.Memory.{counted};
 ghost use Rattle.mitl.specs.Outlook.{row-from, row-to};
 ghost use Rattle.mitl.specs.Rows.{is-timed, timed-before, timed-rows};
 ghost use Rattle.plan.specs.Rows.{rows-of};
 ghost use Rattle.engine.specs.Means.{Means};
-ghost use Rattle.memories.specs.Parts.{Car-cleared, Car-fed, Car-prepared, Prepared, Prepared-at, Readied, Shown-at, Spanned, Window-of};
+ghost use Rattle.memories.specs.Parts.{Car-cleared, Car-fed, Car-prepared, Indexed, Prepared, Prepared-at, Readied, Spanned, Window-of};
 use engine::Fed;
 use engine::clear;
 use engine::feed;
@@ -161,16 +161,25 @@ pub fn prepare_cars<M: WindowMemory>(plan: &Plan, cars: usize, memories: &mut [M
     prepare_first(plan, cars, memories);
 }
 
-// The memory at this place of the list shows its mark and its count.
-pub fn show_at<M: WindowMemory>(memories: &[M], at: usize, d: u32) -> Option<Shown>
-    ensures { λ r. ⌜ Shown-at meaning at d (now (memories .entry)) r ⌝ }
+// What a memory shows: mark d, and how many stretches of yes there are.
+pub fn show<M: WindowMemory>(memory: M, d: u32) -> Shown
+    ensures { λ r. ⌜ (r .mark ≡ meaning memory .mark d) × (r .count ≡ counted (meaning memory)) ⌝ }
 {
-    if at >= memories.len() {
-        return None;
+    Shown {
+        mark: memory.look(d),
+        count: memory.count(),
     }
-    let m = memories[at];
-    Some(Shown {
-        mark: m.look(d),
-        count: m.count(),
-    })
+}
+
+// Where the memory of the row at this place lies in the part of the car at this place, if the list is that long.
+pub fn index_of(plan: &Plan, at: usize, place: usize, len: usize) -> Option<usize>
+    ensures { λ r. ⌜ Indexed (rows-of (now (plan .entry))) at (min place (now (plan .entry) .count)) len r ⌝ }
+{
+    let (from, to) = span(at, timed(plan), len)?;
+    let before = timed_before(plan, place);
+    if before < len - from {
+        Some(from + before)
+    } else {
+        None
+    }
 }

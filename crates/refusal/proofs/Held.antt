@@ -1,5 +1,5 @@
 -- Faults and the refusal that they come to. Assumes nothing.
-use mathlib.Core.Path.{_≡_, refl, ap, _∙_}
+use mathlib.Core.Path.{_≡_, refl, sym, ap, _∙_}
 use mathlib.Core.Bool.{Bool, true, false, cond}
 use mathlib.Core.List.{List, [], _∷_, _++_, map}
 use mathlib.Core.Logic.{_⊎_, inl, inr, ⊎-elim, _↔_}
@@ -48,3 +48,10 @@ first-counted F a (suc n) i low high off on =
       | inr not ↦ cond-false (F a .held) (Some (F a .answer)) (first-fault (map F (counting (a + 1) n))) (off a (omega arith) (omega arith))
           ∙ first-counted F (a + 1) n i (omega arith) (omega arith) (λ j l h. off j (omega arith) h) on
     ]
+
+-- where numbered faults come to none, each is off
+pub off-counted : (F : ℕ → Fault) (a n : ℕ) → first-fault (map F (counting a n)) ≡ None → (i : ℕ) → a ≤ i → i < a + n → F i .held ≡ false
+off-counted F a zero none i low high = absurd (omega arith)
+off-counted F a (suc n) none i low high =
+    let p = none-parts (F a) (map F (counting (a + 1) n)) none in
+    elim (cases-eq a i) [ inl is ↦ ap (λ k. F k .held) (sym is) ∙ p .0 | inr not ↦ off-counted F (a + 1) n (p .1) i (omega arith) (omega arith) ]

@@ -18,7 +18,14 @@ loop-car-holds g c = (
   refl,
   λ i m le. refl,
   λ h means. noted-none (g .M·WindowMemory .meaning) (rows-of (c .args .plan .now)) h (c .args .car) (c .args .word) (c .args .ticks) (c .args .part .now) (c .args .notes .now) (c .args .ticks - c .args .ticks) (omega arith) means,
+  λ _. c .next-step .ensures,
 )
+
+pub run-n-requires : need.run-n-requires
+run-n-requires g c κs =
+    let on = writes-on (c .loop-car .left) (c .loop-car .used) (length (c .loop-car .notes)) (c .loop-car-test .ensures tt) in
+    let work = idle-not (rows-of (c .args .plan .now)) (c .args .ticks) (c .args .part .now) (c .args .notes .now) (c .pre) in
+    (omega (arith, work .2, c .loop-car .kept .part), on .0, c .loop-car .inv .6 (on .0))
 
 pub loop-car-again : need.loop-car-again
 loop-car-again g c =
@@ -26,8 +33,8 @@ loop-car-again g c =
     let all = c .args .ticks in
     let left = c .loop-car .left in
     let used = c .loop-car .used in
-    let n = c .run-verdict .result .1 in
-    let whole = c .run-verdict .ensures in
+    let n = c .run-n .result .1 in
+    let whole = c .run-n .ensures .whole in
     let on = writes-on left used (length (c .loop-car .notes)) (c .loop-car-test .ensures tt) in
     let low : left ≤ all = inv .0 in
     let pos : 0 < n = whole .some in
@@ -39,8 +46,9 @@ loop-car-again g c =
       rest-more (c .args .notes .now) (c .loop-car .notes) used _ (inv .3),
       λ i m past. whole .held .past i m past ∙ inv .4 i m past,
       λ h means.
-          noted-more (g .M·WindowMemory .meaning) (rows-of (c .args .plan .now)) h (c .args .car) (c .args .word) all (c .loop-car .part) (c .run-verdict .last .part) (c .loop-car .notes) used (all - left) left (c .run-verdict .result .0) n
+          noted-more (g .M·WindowMemory .meaning) (rows-of (c .args .plan .now)) h (c .args .car) (c .args .word) all (c .loop-car .part) (c .run-n .last .part) (c .loop-car .notes) used (all - left) left (c .loop-car .step .word) n
           room (omega arith) (inv .5 h means) whole (all - (left - n)) (omega arith),
+      λ more. c .run-n .ensures .after (omega arith),
     )
 
 pub returns : need.returns

@@ -7,16 +7,16 @@ use Rattle.engine.proofs.running.run.Needs as need
 
 pub loop-n-holds : need.loop-n-holds
 loop-n-holds g c =
-    (c .pre .0, c .pre .1, refl, c .next-step .ensures, held-none (g .M·WindowMemory .meaning) (rows-of (c .args .plan .now)) (c .args .word) (c .next-step .result .word) (c .args .part .now))
+    (c .pre .0, c .pre .1, refl, c .pre .2, held-none (g .M·WindowMemory .meaning) (rows-of (c .args .plan .now)) (c .args .word) (c .args .first .word) (c .args .part .now))
 
 pub loop-n-again : need.loop-n-again
 loop-n-again g c =
     let inv = c .loop-n .inv in (
       omega (arith, inv .0, c .hold-n .kept .part),
       omega arith,
-      same-word (c .next-step-in-loop-n .result .word) (c .next-step .result .word) (c .if-not-goes-on .ensures tt),
-      c .next-step-in-loop-n .ensures,
-      held-more (g .M·WindowMemory .meaning) (rows-of (c .args .plan .now)) (c .args .word) (c .next-step .result .word) (c .args .part .now) (c .loop-n .part) (c .hold-n .last .part) (c .loop-n .n) (c .hold-n .result) (c .loop-n .step .word)
+      same-word (c .next-step .result .word) (c .args .first .word) (c .if-not-goes-on .ensures tt),
+      c .next-step .ensures,
+      held-more (g .M·WindowMemory .meaning) (rows-of (c .args .plan .now)) (c .args .word) (c .args .first .word) (c .args .part .now) (c .loop-n .part) (c .hold-n .last .part) (c .loop-n .n) (c .hold-n .result) (c .loop-n .step .word)
           (inv .4) (inv .2) (c .hold-n .ensures .held),
     )
 
@@ -24,15 +24,21 @@ pub returns-then-n-most : need.returns-then-n-most
 returns-then-n-most g c =
     let inv = c .loop-n .inv in
     let some = c .hold-n .ensures .some in
-    whole-all (g .M·WindowMemory .meaning) (rows-of (c .args .plan .now)) (c .args .word) (c .args .most) (c .args .part .now) (c .loop-n .part) (c .hold-n .last .part) (c .next-step .result .word) (c .loop-n .n) (c .loop-n .step .word) (c .hold-n .result)
-    (inv .4) (inv .2) (c .hold-n .ensures .held) (some .0) (omega (arith, some .1, inv .1)) (omega arith)
+    record {
+      whole = whole-all (g .M·WindowMemory .meaning) (rows-of (c .args .plan .now)) (c .args .word) (c .args .most) (c .args .part .now) (c .loop-n .part) (c .hold-n .last .part) (c .args .first .word) (c .loop-n .n) (c .loop-n .step .word) (c .hold-n .result)
+          (inv .4) (inv .2) (c .hold-n .ensures .held) (some .0) (omega (arith, some .1, inv .1)) (omega arith);
+      after = λ lt. absurd (omega arith);
+    }
 
 pub returns-then-not-goes-on : need.returns-then-not-goes-on
 returns-then-not-goes-on g c =
     let p = c .args .plan .now in
     let inv = c .loop-n .inv in
     let some = c .hold-n .ensures .some in
-    let step = c .next-step-in-loop-n .result in
-    whole-ended (g .M·WindowMemory .meaning) (rows-of p) (c .args .word) (c .args .most) (c .args .part .now) (c .loop-n .part) (c .hold-n .last .part) (c .next-step .result .word) (c .loop-n .n) (c .loop-n .step .word) (c .hold-n .result)
-    (inv .4) (inv .2) (c .hold-n .ensures .held) (some .0) (omega (arith, some .1, inv .1))
-    (used-chained (p .rows) (p .count) (p .few) (p .each)) (used-proper (p .rows) (p .count) (p .few) (p .each)) (step .readings) (step .word) (step .lasts) (c .next-step-in-loop-n .ensures) (c .if-not-goes-on .ensures tt)
+    let step = c .next-step .result in
+    record {
+      whole = whole-ended (g .M·WindowMemory .meaning) (rows-of p) (c .args .word) (c .args .most) (c .args .part .now) (c .loop-n .part) (c .hold-n .last .part) (c .args .first .word) (c .loop-n .n) (c .loop-n .step .word) (c .hold-n .result)
+          (inv .4) (inv .2) (c .hold-n .ensures .held) (some .0) (omega (arith, some .1, inv .1))
+          (used-chained (p .rows) (p .count) (p .few) (p .each)) (used-proper (p .rows) (p .count) (p .few) (p .each)) (step .readings) (step .word) (step .lasts) (c .next-step .ensures) (c .if-not-goes-on .ensures tt);
+      after = λ _. c .next-step .ensures;
+    }

@@ -1,0 +1,2 @@
+-- The definitions that the contracts of the line cite. Assumes nothing.
+pub mod Rest
