@@ -127,7 +127,7 @@ pub fn decode_any(bytes: &[u8]) -> Result<Plan, TableFault>
 // The refusal of a table in words of the places along its chain, that a sound chain ends and takes no row twice,
 // and that a table has one reply.
 pub fn tables_hold() -> u8
-    ensures { λ _. ⌜ Tables-told ⌝ }
+    ensures { λ r. ⌜ r ≡ 0 ⌝ ∗ ⌜ Tables-told ⌝ }
 {
     0
 }

@@ -2,7 +2,7 @@ use mathlib.Core.Path.{refl}
 use Rattle.book.specs.Book.{empty}
 use Rattle.book.specs.Runs.{after}
 use Rattle.book.proofs.After.{verdicts-right, sound-after, sound-empty, refused-when}
-use Rattle.book.proofs.books_are_right.Needs as need
+use Rattle.book.proofs.right.Needs as need
 
 pub returns : need.returns
 returns c = (
