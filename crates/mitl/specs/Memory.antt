@@ -1,5 +1,5 @@
 -- What a window memory means, and what each of its functions makes of that. Assumes nothing.
-use Rattle.std.specs.Prelude.{◌≡◌, ℕ, zero, suc, ◌+◌, ◌-◌, ◌/◌, ◌<◌, ◌≤◌, Bool, true, false, cond, not, ◌&&◌, ◌||◌, Some, None, Option, nat_le}
+use Rattle.std.specs.Prelude.{◌≡◌, ℕ, zero, suc, ◌+◌, ◌-◌, ◌/◌, ◌<◌, Bool, false, cond, not, ◌&&◌, ◌||◌, Some, None, Option, nat_le}
 use Rattle.mitl.specs.Windows.{some_below}
 
 -- A window from a to b, and its outlook: mark d tells whether the tick d ahead, 0 being the next, is already

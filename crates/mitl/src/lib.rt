@@ -2,6 +2,9 @@
 //!
 //! The definitions stand in specs/. The laws that they obey are contracts of the functions here; a function with
 //! nothing to compute but its law returns 0.
+
+#![tactic(auto)]
+
 ghost use Rattle.std.specs.Prelude.{◌≡◌, ℕ, ◌+◌, ◌-◌, ◌/◌, ◌<◌, ◌≤◌, Bool, ◌&&◌, ◌||◌, ◌==◌};
 ghost use Rattle.mitl.specs.Cases.{CasesRight};
 ghost use Rattle.mitl.specs.Formulas.{bit};

@@ -1,14 +1,13 @@
 -- From the fields of twelve bytes to the record and back. Assumes nothing.
-use Rattle.std.proofs.Common.{◌≡◌, ℕ, ◌+◌, ◌*◌, ◌/◌, ◌%◌, ◌<◌, Bool, true, false, cond, not, eqb, List, [], ◌∷◌, ◌++◌, length, get_or, drop, Some, None, Ok, Err, Option, Result, sym, refl, ap, ◌∙◌, subst, ap₂, arith}
+use Rattle.std.proofs.Common.{◌≡◌, ℕ, ◌+◌, ◌*◌, ◌/◌, ◌%◌, ◌<◌, not, eqb, List, [], ◌∷◌, ◌++◌, length, get_or, drop, None, Ok, Err, Result, sym, refl, ap, ◌∙◌, ap₂, arith}
 use Rattle.std.proofs.lemmas.Bool.{eq-eqb, eqb-true, not-false, not_from_true, cond-false}
-use Rattle.refusal.specs.declared.Refusal.{Refusal}
-use Rattle.refusal.specs.Faults.{Fault, fault, first_fault}
+use Rattle.refusal.specs.Faults.{fault, first_fault}
 use Rattle.refusal.proofs.Held.{none_parts, none_from}
 use Rattle.refusal.proofs.Firsts.{after_none}
 use Rattle.record.specs.declared.Record.{Record}
 use Rattle.record.specs.declared.RecordFault.{RecordFault}
-use Rattle.record.specs.Layout.{two, four, two_at, four_at, bytes_of, fields_at, field_faults, apart_faults, reading_faults, writing_faults, passing_faults, room_fault, letter_fault, zero_fault}
-use Rattle.record.specs.Replies.{Fields, Checked, Read, Written, Passed, Back, refusal_of}
+use Rattle.record.specs.Layout.{two_at, four_at, bytes_of, fields_at, field_faults, apart_faults, reading_faults, writing_faults, passing_faults, room_fault, letter_fault, zero_fault}
+use Rattle.record.specs.Replies.{Fields, Checked, Read, Written, Passed, Back}
 use Rattle.record.proofs.Orders.{two_back, four_back, twelve}
 
 fields_are : (bytes : List ℕ) (z : ℕ) (r : Record) → Fields bytes z r → r ≡ fields_at bytes

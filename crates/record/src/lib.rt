@@ -2,6 +2,9 @@
 //!
 //! Unit and desk share this codec. A record is letter, a zero byte, car (2 bytes), length (4) and word (4), and
 //! numbers have the most significant byte first at both ends.
+
+#![tactic(auto)]
+
 ghost use Rattle.std.specs.Prelude.{◌≡◌, Bool, true, false, Some, None};
 ghost use Rattle.refusal.specs.Faults.{refusal, first_fault};
 ghost use Rattle.record.specs.Cars.{same_car, car_place};

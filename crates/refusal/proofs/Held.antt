@@ -1,9 +1,9 @@
 -- Faults and the refusal that they come to. Assumes nothing.
-use Rattle.std.proofs.Common.{◌≡◌, ℕ, zero, suc, ◌+◌, ◌<◌, ◌≤◌, Bool, true, false, cond, ◌⊎◌, ◌↔◌, List, [], ◌∷◌, ◌++◌, map, is_some, Some, None, Option, sym, refl, ap, ◌∙◌, inl, inr, ⊎_elim, arith}
+use Rattle.std.proofs.Common.{◌≡◌, ℕ, zero, suc, ◌+◌, ◌<◌, ◌≤◌, Bool, true, false, cond, ◌⊎◌, ◌↔◌, List, [], ◌∷◌, map, is_some, Some, None, Option, sym, refl, ap, ◌∙◌, inl, inr, ⊎_elim, arith}
 use Rattle.std.specs.List.{range_with_len}
 use Rattle.std.proofs.lemmas.Bool.{both_ways, cond-true, cond-false, cases_eq}
 use Rattle.refusal.specs.declared.Refusal.{Refusal}
-use Rattle.refusal.specs.Faults.{Fault, first_fault, SomeHeld, OneHeld}
+use Rattle.refusal.specs.Faults.{Fault, first_fault, OneHeld}
 
 -- the first of two: x where b holds, else the rest
 step : (b : Bool) (x : Refusal) (rest : Option Refusal) {H : Type 0} → (is_some rest ≡ true) ↔ H → (is_some (cond b (Some x) rest) ≡ true) ↔ ((b ≡ true) ⊎ H)

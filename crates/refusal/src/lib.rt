@@ -1,4 +1,7 @@
 //! Refusals: what every layer answers to bad input, by number and place.
+
+#![tactic(auto)]
+
 ghost use Rattle.std.specs.Prelude.{◌≡◌, Some};
 ghost use Rattle.refusal.specs.Faults.{refusal, OneHeld};
 ghost use Rattle.refusal.specs.Shown.{refusal_text};

@@ -5,6 +5,9 @@
 //! Each kind says by `meaning` what its content means, and every contract speaks of that meaning alone, so that
 //! code above is proved once for all kinds. No kind has an invariant in its type: content that a kind never
 //! makes means a new memory.
+
+#![tactic(auto)]
+
 ghost use Rattle.std.specs.Prelude.{◌≡◌, Bool, true, false, cond, ℕ, ◌<◌, ◌≤◌};
 ghost use Rattle.mitl.specs.Memory.{Meaning, clean, new_memory, cleared, took, ahead, Lasts, counted};
 ghost use Rattle.mitl.specs.Windows.{sound_window};

@@ -5,5 +5,5 @@ use Rattle.mitl.proofs.most_stretches.Goals as goal
 
 pub returns : goal.returns
 returns c =
-    let is : c.one-and-quotient.result ≡ most_stretches_lem c.args.a c.args.b = search rules in
-    record { value = is; enough = bounds c.args.a c.args.b c.one-and-quotient.result is }
+    let is : c.one_and_quotient.result ≡ most_stretches_lem c.args.a c.args.b = search rules in
+    record { value = is; enough = bounds c.args.a c.args.b c.one_and_quotient.result is }

@@ -1,4 +1,4 @@
-use Rattle.std.proofs.Common.{◌<◌, sym, subst, arith}
+use Rattle.std.proofs.Common.{◌<◌, subst, arith}
 use Rattle.record.specs.Replies.{Read}
 use Rattle.record.proofs.Replies.{back_from}
 use Rattle.record.proofs.written_and_read.Goals as goal
@@ -6,7 +6,7 @@ use Rattle.record.proofs.written_and_read.Goals as goal
 pub returns : goal.returns
 returns c =
     let r = c.args.sent in
-    let w = c.in-ok-write.ensures in
+    let w = c.in_ok-write.ensures in
     let car : r.car.number < 65536 = omega arith in
     let ticks : r.ticks < 4294967296 = omega arith in
     let word : r.word < 4294967296 = omega arith in
