@@ -1,5 +1,5 @@
 -- Stretches counted word by word. Assumes nothing.
-use Rattle.std.proofs.Common.{◌≡◌, ℕ, zero, suc, ◌+◌, ◌-◌, ◌/◌, ◌%◌, ◌^◌, ◌<◌, ◌≤◌, Bool, false, cond, not, ◌&&◌, eqb, sym, ap, ◌∙◌, ap₂, add-zero, add-suc, pow-suc, arith}
+use Rattle.std.proofs.Common.{◌≡◌, ℕ, zero, suc, ◌+◌, ◌/◌, ◌%◌, ◌^◌, ◌<◌, ◌≤◌, Bool, false, cond, not, ◌&&◌, eqb, sym, ap, ◌∙◌, ap₂, add-zero, add-suc, pow-suc, arith}
 use lib.Count.{ones, ones_cat, ones-ones}
 use Rattle.std.proofs.lemmas.Nat.{pow_pos, shr_split, mod_below, div_below}
 use Rattle.std.proofs.lemmas.Bool.{and_left}

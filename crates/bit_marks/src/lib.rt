@@ -2,6 +2,9 @@
 //!
 //! Mark d is bit d % 64 of word d / 64, and there are words for a thousand marks. Content that this kind never makes,
 //! a window that it does not serve or a bit beyond the marks, means a new memory, and every function behaves so on it.
+
+#![tactic(auto)]
+
 ghost use Rattle.std.specs.Prelude.{◌≡◌, ◌<◌, true, false, ◌&&◌, if◌then◌else◌, nat_lt};
 ghost use Rattle.mitl.specs.Memory.{clean, new_memory, took, ahead, Lasts};
 ghost use Rattle.bit_marks.specs.Marks.{marked, meaning_of, served, sound};

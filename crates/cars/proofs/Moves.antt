@@ -1,5 +1,5 @@
 -- What a refused record leaves. Assumes nothing.
-use Rattle.std.proofs.Common.{◌≡◌, ℕ, Bool, true, false, cond, List, get_or, set, is_ok, Some, None, Ok, Err, Result, sym, refl, ap, ◌∙◌, arith}
+use Rattle.std.proofs.Common.{◌≡◌, ℕ, Bool, true, false, cond, List, get_or, set, is_ok, Some, Ok, Err, Result, sym, refl, ap, ◌∙◌, arith}
 use Rattle.std.specs.Result.{result_err}
 use Rattle.std.proofs.lemmas.List.{set-get_or}
 use Rattle.std.proofs.lemmas.Bool.{eqb-true}
@@ -12,7 +12,7 @@ use Rattle.cars.specs.declared.FeedFault.{FeedFault}
 use Rattle.cars.specs.declared.Slot.{Slot}
 use Rattle.cars.specs.Cars.{no_slot, cars_of, place_of}
 use Rattle.cars.specs.Moves.{Moved, MovedAt, Recorded, record_refusal, moved, is_running}
-use Rattle.cars.specs.Refusals.{car_place, of_feed}
+use Rattle.cars.specs.Refusals.{car_place}
 use Rattle.cars.proofs.Places.{place_in, car_at, length_cars}
 
 abbrev table : List Slot → ℕ → CarTable

@@ -1,5 +1,5 @@
 -- What a record does to a car's state. Assumes nothing.
-use Rattle.std.specs.Prelude.{◌≡◌, ℕ, ◌<◌, Bool, true, false, cond, List, length, is_ok, Some, None, Ok, Err, Option, Result, ◌≢◌, slice_index_or}
+use Rattle.std.specs.Prelude.{◌≡◌, ℕ, Bool, true, false, cond, is_ok, Some, None, Ok, Err, Option, Result, ◌≢◌, slice_index_or}
 use Rattle.std.specs.Result.{result_err}
 use Rattle.refusal.specs.declared.Refusal.{Refusal}
 use Rattle.refusal.specs.Faults.{refusal}

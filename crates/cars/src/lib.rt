@@ -1,4 +1,7 @@
 //! The car table: which cars a watch serves, and how each stands.
+
+#![tactic(auto)]
+
 ghost use Rattle.std.specs.Prelude.{◌≡◌, ℕ, ◌<◌, ◌≤◌, Bool, true, false, ◌||◌, List, [], length, slice_index_or};
 ghost use Rattle.cars.specs.Cars.{same_car, has_at_lem, listed, no_car, place_of, cars_of, no_slot, Added, Filled};
 ghost use Rattle.cars.specs.Moves.{Moved, MovedAt, Recorded};

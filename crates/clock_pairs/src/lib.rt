@@ -3,6 +3,9 @@
 //! An episode is one unbroken stretch of yes ticks. It reaches the ticks ahead from `a - rise` on and before `b - fall`.
 //! It is dropped once its fall is b ticks old, and a gap of at most b - a ticks is erased, since the marks show no gap then.
 //! So the episodes are the stretches of the outlook, and a served window never has more than 32 of them.
+
+#![tactic(auto)]
+
 ghost use Rattle.std.specs.Prelude.{◌≡◌, ◌+◌, ◌-◌, ◌<◌, ◌≤◌, min, Bool, true, false, ◌⊎◌, [], ◌∷◌, ◌++◌, length, take, drop, replicate, nat_le};
 ghost use Rattle.clock_pairs.specs.Episodes.{aged, apart, covers, episode, lasting, older, reached, served, vacant};
 ghost use Rattle.clock_pairs.specs.Meanings.{goes_on, held, holding, meaning_of, sound, told};

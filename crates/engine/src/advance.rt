@@ -23,7 +23,7 @@ fn advance_row<M: WindowMemory>(
 ) -> usize
     requires { Readable row × (is_timed row ≡ true → at < length part.old) × (at < 64) }
     ensures behind { result ≡ (if is_timed row then 1 else 0) + at }
-    ensures told { Told meaning (advanced row (reading_of vs.now) n) at part.old part.new }
+    ensures told { Told M.meaning (advanced row (reading_of vs.now) n) at part.old part.new }
     ensures still { is_timed row ≡ false → part.new ≡ part.old }
 {
     match row {
@@ -46,7 +46,7 @@ fn advance_row<M: WindowMemory>(
 // The memories of all rows take n ticks at which the rows have these readings.
 pub(crate) fn advance<M: WindowMemory>(plan: &Plan, vs: &[bool; 64], n: u32, part: &mut [M])
     requires { timed_rows (rows_of plan.now) ≤ length part.old }
-    ensures { Advanced meaning (rows_of plan.now) (reading_of vs.now) n (length (rows_of plan.now)) part.old part.new }
+    ensures { Advanced M.meaning (rows_of plan.now) (reading_of vs.now) n (length (rows_of plan.now)) part.old part.new }
 {
     let mut at = 0;
     for k in 0..plan.count {
@@ -68,7 +68,7 @@ pub(crate) fn timed(plan: &Plan) -> usize
 // The first memories are cleared.
 pub(crate) fn clear_first<M: WindowMemory>(part: &mut [M], end: usize)
     requires { end ≤ length part.old }
-    ensures { Changed meaning cleared end part.old part.new }
+    ensures { Changed M.meaning cleared end part.old part.new }
 {
     for i in 0..end {
         let mut m = part[i];

@@ -37,7 +37,7 @@ pub(crate) fn fill<M: WindowMemory>(
 ) -> Fed
     requires { idle (rows_of plan.now) ticks part.old notes.old ≡ false }
     ensures bounded { Bounded (rows_of plan.now) ticks part.old notes.old part.new notes.new result }
-    ensures judged { (h : List ℕ) → Means meaning (rows_of plan.now) part.old h → Judged meaning (rows_of plan.now) h car word ticks part.old notes.old part.new notes.new result }
+    ensures judged { (h : List ℕ) → Means M.meaning (rows_of plan.now) part.old h → Judged M.meaning (rows_of plan.now) h car word ticks part.old notes.old part.new notes.new result }
 {
     let mut used = 0;
     let mut left = ticks;

@@ -1,5 +1,8 @@
 //! One car, any number of ticks: its memories are told an input word that lasts, and the longest runs of its verdict
 //! words are written as notes.
+
+#![tactic(auto)]
+
 ghost use Rattle.std.specs.Prelude.{◌≡◌, ℕ, true, List, []};
 ghost use Rattle.mitl.specs.Memory.{cleared};
 ghost use Rattle.mitl.specs.Rows.{timed_rows};
@@ -30,8 +33,8 @@ pub struct Fed {
 
 // Clears the memories of the plan's timed rows.
 pub fn clear<M: WindowMemory>(plan: &Plan, part: &mut [M])
-    ensures memories { Changed meaning cleared (timed_rows (rows_of plan.now)) part.old part.new }
-    ensures means { (h : List ℕ) → Means meaning (rows_of plan.now) part.old h → Means meaning (rows_of plan.now) part.new [] }
+    ensures memories { Changed M.meaning cleared (timed_rows (rows_of plan.now)) part.old part.new }
+    ensures means { (h : List ℕ) → Means M.meaning (rows_of plan.now) part.old h → Means M.meaning (rows_of plan.now) part.new [] }
 {
     let end = timed(plan).min(part.len());
     clear_first(part, end);
@@ -50,7 +53,7 @@ pub fn feed<M: WindowMemory>(
 ) -> Fed
     ensures unfed { idle (rows_of plan.now) ticks part.old notes.old ≡ true → Unfed part.old notes.old part.new notes.new result }
     ensures bounded { Bounded (rows_of plan.now) ticks part.old notes.old part.new notes.new result }
-    ensures judged { (h : List ℕ) → Means meaning (rows_of plan.now) part.old h → Judged meaning (rows_of plan.now) h car word ticks part.old notes.old part.new notes.new result }
+    ensures judged { (h : List ℕ) → Means M.meaning (rows_of plan.now) part.old h → Judged M.meaning (rows_of plan.now) h car word ticks part.old notes.old part.new notes.new result }
 {
     if is_idle(plan, ticks, part, notes) {
         return Fed { notes: 0, ticks: 0 };

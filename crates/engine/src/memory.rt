@@ -9,7 +9,7 @@ use window::WindowMemory;
 // The verdict of the memory at this place, and for how long it lasts, while its operand keeps this value.
 pub(crate) fn run_at<M: WindowMemory>(part: &[M], at: usize, operand: bool) -> (bool, Option<u32>)
     requires { at < length part.now }
-    ensures { Lasts (ahead (meant meaning part.now at).a operand (meant meaning part.now at).mark) result.0 result.1 }
+    ensures { Lasts (ahead (meant M.meaning part.now at).a operand (meant M.meaning part.now at).mark) result.0 result.1 }
 {
     part[at].run(operand)
 }
@@ -17,7 +17,7 @@ pub(crate) fn run_at<M: WindowMemory>(part: &[M], at: usize, operand: bool) -> (
 // B runs on by the opposite of the left reading, turned round.
 pub(crate) fn run_always<M: WindowMemory>(part: &[M], at: usize, left: bool) -> (bool, Option<u32>)
     requires { at < length part.now }
-    ensures { Lasts (λ d. not (ahead (meant meaning part.now at).a (not left) (meant meaning part.now at).mark d)) result.0 result.1 }
+    ensures { Lasts (λ d. not (ahead (meant M.meaning part.now at).a (not left) (meant M.meaning part.now at).mark d)) result.0 result.1 }
 {
     turned(run_at(part, at, !left))
 }
@@ -30,7 +30,7 @@ pub(crate) fn run_since<M: WindowMemory>(
     right: bool,
 ) -> (bool, Option<u32>)
     requires { at < length part.now }
-    ensures { Lasts (λ d. left && ahead (meant meaning part.now at).a right (meant meaning part.now at).mark d) result.0 result.1 }
+    ensures { Lasts (λ d. left && ahead (meant M.meaning part.now at).a right (meant M.meaning part.now at).mark d) result.0 result.1 }
 {
     if left {
         run_at(part, at, right)
@@ -42,7 +42,7 @@ pub(crate) fn run_since<M: WindowMemory>(
 // The memory at this place takes n ticks.
 pub(crate) fn take_at<M: WindowMemory>(part: &mut [M], at: usize, operand: bool, n: u32)
     requires { at < length part.old }
-    ensures { Told meaning (took operand n) at part.old part.new }
+    ensures { Told M.meaning (took operand n) at part.old part.new }
 {
     let mut m = part[at];
     m.take(operand, n);
@@ -52,7 +52,7 @@ pub(crate) fn take_at<M: WindowMemory>(part: &mut [M], at: usize, operand: bool,
 // The memory at this place is cleared.
 pub(crate) fn clear_at<M: WindowMemory>(part: &mut [M], at: usize)
     requires { at < length part.old }
-    ensures { Told meaning cleared at part.old part.new }
+    ensures { Told M.meaning cleared at part.old part.new }
 {
     let mut m = part[at];
     m.clear();
@@ -62,7 +62,7 @@ pub(crate) fn clear_at<M: WindowMemory>(part: &mut [M], at: usize)
 // B takes the opposite of the left reading.
 pub(crate) fn take_always<M: WindowMemory>(part: &mut [M], at: usize, left: bool, n: u32)
     requires { at < length part.old }
-    ensures { Told meaning (took (not left) n) at part.old part.new }
+    ensures { Told M.meaning (took (not left) n) at part.old part.new }
 {
     take_at(part, at, !left, n);
 }
@@ -76,7 +76,7 @@ pub(crate) fn take_since<M: WindowMemory>(
     n: u32,
 )
     requires { at < length part.old }
-    ensures { Told meaning (λ m. (if left then took right n m else cleared m)) at part.old part.new }
+    ensures { Told M.meaning (λ m. (if left then took right n m else cleared m)) at part.old part.new }
 {
     if left {
         take_at(part, at, right, n);

@@ -22,7 +22,7 @@ fn settle<M: WindowMemory>(
 ) -> (bool, Option<u32>, usize)
     requires { Readable row × (is_timed row ≡ true → at < length part.now) × (at < 64) }
     ensures behind { result.2 ≡ (if is_timed row then 1 else 0) + at }
-    ensures lasts { Lasts (seen row (meant meaning part.now at) (reading_of vs.now) word) result.0 result.1 }
+    ensures lasts { Lasts (seen row (meant M.meaning part.now at) (reading_of vs.now) word) result.0 result.1 }
 {
     match row {
         Row::Input { bit } => (input_bit(word, bit), None, at),
@@ -66,7 +66,7 @@ pub(crate) struct Step {
 
 pub(crate) fn next<M: WindowMemory>(plan: &Plan, word: u32, part: &[M]) -> Step
     requires { timed_rows (rows_of plan.now) ≤ length part.now }
-    ensures { Foreseen meaning (rows_of plan.now) word part.now (length (rows_of plan.now)) result.readings result.word result.lasts }
+    ensures { Foreseen M.meaning (rows_of plan.now) word part.now (length (rows_of plan.now)) result.readings result.word result.lasts }
 {
     let mut readings = [false; 64];
     let mut verdict = 0;

@@ -13,10 +13,10 @@ use window::WindowMemory;
 
 // Takes the ticks during which no reading changes, at most so many, and says how many.
 fn hold<M: WindowMemory>(plan: &Plan, word: u32, step: &Step, most: u32, part: &mut [M]) -> u32
-    requires { (timed_rows (rows_of plan.now) ≤ length part.old) × (0 < most) × Foreseen meaning (rows_of plan.now) word part.old (length (rows_of plan.now)) step.now.readings step.now.word step.now.lasts }
+    requires { (timed_rows (rows_of plan.now) ≤ length part.old) × (0 < most) × Foreseen M.meaning (rows_of plan.now) word part.old (length (rows_of plan.now)) step.now.readings step.now.word step.now.lasts }
     ensures ticks { result ≡ capped step.now.lasts most }
     ensures some { (0 < result) × (result ≤ most) }
-    ensures held { Held meaning (rows_of plan.now) word part.old part.new step.now.word result }
+    ensures held { Held M.meaning (rows_of plan.now) word part.old part.new step.now.word result }
 {
     let n = capped_at(step.lasts, most);
     advance(plan, &step.readings, n, part);
@@ -39,9 +39,9 @@ pub(crate) fn run<M: WindowMemory>(
     first: Step,
     part: &mut [M],
 ) -> (Step, u32)
-    requires { (timed_rows (rows_of plan.now) ≤ length part.old) × (0 < most) × Foreseen meaning (rows_of plan.now) word part.old (length (rows_of plan.now)) first.readings first.word first.lasts }
-    ensures whole { Whole meaning (rows_of plan.now) word most part.old part.new first.word result.1 }
-    ensures after { result.1 < most → Foreseen meaning (rows_of plan.now) word part.new (length (rows_of plan.now)) result.0.readings result.0.word result.0.lasts }
+    requires { (timed_rows (rows_of plan.now) ≤ length part.old) × (0 < most) × Foreseen M.meaning (rows_of plan.now) word part.old (length (rows_of plan.now)) first.readings first.word first.lasts }
+    ensures whole { Whole M.meaning (rows_of plan.now) word most part.old part.new first.word result.1 }
+    ensures after { result.1 < most → Foreseen M.meaning (rows_of plan.now) word part.new (length (rows_of plan.now)) result.0.readings result.0.word result.0.lasts }
 {
     let mut step = first;
     let verdict = first.word;

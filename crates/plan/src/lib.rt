@@ -1,4 +1,7 @@
 //! Plans that cannot be wrong.
+
+#![tactic(auto)]
+
 ghost use Rattle.std.specs.Prelude.{◌≡◌, ℕ, ◌<◌, ◌≤◌, min, true, ◌&&◌, List, [], ◌∷◌, length, drop, replicate, IfSome};
 ghost use Rattle.mitl.specs.Rows.{row_at, timed_before, timed_rows};
 ghost use Rattle.mitl.specs.Windows.{sound_window, some_below, all_below};

@@ -1,4 +1,7 @@
 //! The share layer: what share of a car's time each rule was yes, from notes of its verdicts.
+
+#![tactic(auto)]
+
 ghost use Rattle.std.specs.Prelude.{◌≡◌, ◌+◌, ◌*◌, ◌^◌, ◌<◌, ◌≤◌, length};
 ghost use Rattle.share.specs.Ticks.{of_car, yes_of, car_ticks, rule_ticks, per_mille_lem, figure};
 ghost use Rattle.share.specs.Replies.{refusal_of, Summed, Whole, Parted, Shared, Busiest, Busier, Busied};

@@ -1,4 +1,7 @@
 //! What a month's sheet is made of: the notes that the input tells of, and a row for each car.
+
+#![tactic(auto)]
+
 ghost use Rattle.std.specs.Prelude.{◌≡◌, ◌<◌, true, length, IfOk, filter};
 ghost use Rattle.std.specs.Option.{option_to_list};
 ghost use Rattle.record.specs.Layout.{word_ok};

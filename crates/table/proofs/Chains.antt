@@ -1,10 +1,9 @@
 -- How long a chain is whose rows have no fault so far. Assumes nothing.
-use Rattle.std.proofs.Common.{◌≡◌, ℕ, zero, suc, ◌+◌, ◌-◌, ◌*◌, ◌<◌, ◌≤◌, Bool, true, false, not, ◌&&◌, eqb, leb, List, map, length, get_or, Some, None, sym, refl, ap, ◌∙◌, inl, inr, arith}
-use Rattle.std.specs.List.{range_with_len}
+use Rattle.std.proofs.Common.{◌≡◌, ℕ, zero, suc, ◌+◌, ◌-◌, ◌*◌, ◌<◌, ◌≤◌, Bool, eqb, List, length, Some, None, sym, ap, ◌∙◌, inl, inr, arith}
 use Rattle.std.proofs.lemmas.List.FromFn.{length-map-range_with_len, get_or-map-range_with_len}
 use Rattle.std.proofs.lemmas.Bool.{and_parts, not-false, leb-true, eqb-true, eq-eqb, ne_eqb, cases_eq}
 use Rattle.plan.proofs.Found.{lost_from}
-use Rattle.table.specs.Chain.{on_chain, letter_at, fields_at, numbers_before, rows_before, first_from, chain_length, head_faults, marked, right_head, row_faults}
+use Rattle.table.specs.Chain.{on_chain, letter_at, fields_at, numbers_before, rows_before, chain_length, head_faults, right_head, row_faults}
 use Rattle.table.specs.Layout.{byte_at, rows_told, first_told}
 use Rattle.refusal.specs.Faults.{first_fault}
 use Rattle.table.specs.declared.row.Letter.{Letter}

@@ -1,6 +1,6 @@
 -- What is known of a row without a fault. Assumes nothing.
-use Rattle.std.proofs.Common.{◌≡◌, ℕ, ◌<◌, ◌≤◌, Bool, true, false, cond, not, ◌&&◌, ◌||◌, eqb, ltb, List, [], ◌∷◌, length, is_some, Some, None, Option, unwrap_or, sym, refl, ap, ◌∙◌, inl, inr, arith}
-use Rattle.std.proofs.lemmas.Bool.{cases_Bool, and_parts, and_from, not-false, not_from_false, or_parts, ltb-false, eqb-false, both_ways, cond-true, cond-false, lt-ltb}
+use Rattle.std.proofs.Common.{◌≡◌, ℕ, ◌<◌, ◌≤◌, Bool, true, false, cond, not, ◌&&◌, ◌||◌, eqb, ltb, List, length, is_some, Some, None, Option, unwrap_or, sym, refl, ap, ◌∙◌, inl, inr, arith}
+use Rattle.std.proofs.lemmas.Bool.{cases_Bool, and_parts, and_from, not-false, not_from_false, or_parts, ltb-false, eqb-false, both_ways, cond-true, lt-ltb}
 use Rattle.mitl.specs.declared.Row.{Row}
 use Rattle.mitl.specs.Rows.{row_at}
 use Rattle.mitl.specs.Windows.{sound_window}

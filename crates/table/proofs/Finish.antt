@@ -1,17 +1,15 @@
 -- A whole chain as a plan, and the refusal of a table by its parts. Assumes nothing.
-use Rattle.std.proofs.Common.{◌≡◌, ℕ, ◌+◌, ◌-◌, ◌<◌, ◌≤◌, Bool, true, false, cond, not, ◌&&◌, List, [], ◌∷◌, ◌++◌, map, length, get_or, take, drop, replicate, Some, None, sym, refl, ap, ◌∙◌, subst, arith}
-use Rattle.std.specs.List.{range_with_len}
+use Rattle.std.proofs.Common.{◌≡◌, ℕ, ◌-◌, ◌<◌, Bool, true, false, not, ◌&&◌, List, [], ◌∷◌, ◌++◌, take, drop, replicate, Some, None, sym, ap, ◌∙◌, arith}
 use Rattle.std.proofs.lemmas.List.FromFn.{length-map-range_with_len, get_or-map-range_with_len}
 use Rattle.std.proofs.lemmas.List.{get_or-take}
 use Rattle.std.proofs.lemmas.Bool.{le-leb, not_from_true, not_from_false, cond-true, cond-false}
-use Rattle.mitl.specs.declared.Row.{Row}
 use Rattle.mitl.specs.declared.Row.TheVariants.{Input}
 use Rattle.mitl.specs.Rows.{row_at}
-use Rattle.mitl.specs.Windows.{some_below, all_below}
+use Rattle.mitl.specs.Windows.{some_below}
 use Rattle.plan.specs.declared.plan.Plan.{Plan}
 use Rattle.plan.specs.Sound.{is_a_rule, row_ok, sound_rows}
 use Rattle.plan.proofs.Below.{all_from, some_same}
-use Rattle.table.specs.Chain.{on_chain, row_in, fields_at, letter_at, numbers_before, rows_before, chain_length, ruled, head_faults, chain_faults, table_refusal}
+use Rattle.table.specs.Chain.{on_chain, row_in, fields_at, numbers_before, rows_before, ruled, head_faults, chain_faults, table_refusal}
 use Rattle.table.specs.Decoded.{PlanOf}
 use Rattle.table.specs.Steps.{DraftOf}
 use Rattle.table.specs.Faults.{row_of}

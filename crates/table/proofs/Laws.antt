@@ -1,5 +1,5 @@
 -- The laws of a table's refusal and of its chain. Assumes nothing.
-use Rattle.std.proofs.Common.{◌≡◌, ℕ, zero, suc, ◌+◌, ◌-◌, ◌<◌, ◌≤◌, Bool, true, false, not, eqb, List, [], ◌∷◌, ◌++◌, take, drop, replicate, Some, None, Ok, Err, Option, Result, sym, refl, ap, ◌∙◌, inl, inr, arith}
+use Rattle.std.proofs.Common.{◌≡◌, ℕ, zero, suc, ◌-◌, ◌<◌, ◌≤◌, Bool, not, eqb, List, [], ◌∷◌, ◌++◌, take, drop, replicate, Some, None, Ok, Err, Result, sym, refl, ap, ◌∙◌, inl, inr, arith}
 use Rattle.std.proofs.lemmas.List.{take-append-drop}
 use Rattle.std.proofs.lemmas.Bool.{cases_lt, eqb-true, eqb-false}
 use Rattle.mitl.specs.declared.Row.TheVariants.{Input}
@@ -7,9 +7,8 @@ use Rattle.plan.specs.declared.plan.Plan.{Plan}
 use Rattle.plan.specs.Sound.{is_a_rule}
 use Rattle.plan.proofs.Below.{some_from, some_none}
 use Rattle.table.specs.Chain.{on_chain, row_in, fields_at, first_from, chain_length, ruled, head_faults, row_faults, chain_faults, table_refusal}
-use Rattle.table.specs.Decoded.{Decoded, PlanOf}
+use Rattle.table.specs.Decoded.{Decoded}
 use Rattle.table.specs.Laws.{Clear, GoesOn, Told, ChainEnds, SameReply, TablesTold}
-use Rattle.table.specs.Layout.{rows_told}
 use Rattle.refusal.specs.Faults.{Fault, fault, first_fault}
 use Rattle.table.specs.Refusals.{of_table}
 use Rattle.refusal.specs.declared.Refusal.{Refusal}

@@ -1,9 +1,7 @@
 -- What the tests on the rows before a place say of the chain and of the bytes. Assumes nothing.
-use Rattle.std.proofs.Common.{◌≡◌, ℕ, ◌+◌, ◌<◌, ◌≤◌, Bool, true, false, cond, not, ◌&&◌, eqb, List, length, get_or, is_some, Some, None, Decides, Option, unwrap_or, sym, refl, ap, ◌∙◌, inl, inr, arith}
-use Rattle.std.specs.List.{range_with_len}
+use Rattle.std.proofs.Common.{◌≡◌, ℕ, ◌<◌, Bool, true, false, cond, not, ◌&&◌, eqb, List, length, get_or, is_some, Some, None, Decides, Option, unwrap_or, sym, refl, ap, ◌∙◌, inl, inr, arith}
 use Rattle.std.proofs.lemmas.List.FromFn.{length-map-range_with_len, get_or-map-range_with_len}
 use Rattle.std.proofs.lemmas.Bool.{cases_Bool, both_ways, eq-eqb, eqb-true, eqb-false, ne_eqb, cond-true, cond-false, and_parts, and_from, and_right}
-use Rattle.mitl.specs.declared.Row.{Row}
 use Rattle.mitl.specs.declared.Row.TheVariants.{Input}
 use Rattle.mitl.specs.Rows.{row_at, is_rule}
 use Rattle.plan.specs.Places.{place_among_lem}
@@ -11,7 +9,7 @@ use Rattle.plan.specs.Sound.{is_a_rule}
 use Rattle.plan.proofs.Below.{some_from, some_at}
 use Rattle.plan.proofs.Found.{found_place, lost_from}
 use Rattle.table.specs.Chain.{on_chain, fields_at, row_in, numbers_before, rows_before}
-use Rattle.table.specs.Faults.{unless_rule, operand_place, place_in, rule_used, row_of}
+use Rattle.table.specs.Faults.{unless_rule, rule_used, row_of}
 use Rattle.table.specs.Laws.{ReadAsSaid}
 use Rattle.table.specs.Layout.{fields_of}
 use Rattle.table.specs.Letters.{letter_from}

@@ -1,16 +1,15 @@
 -- What the walk along a chain keeps. Assumes nothing.
-use Rattle.std.proofs.Common.{◌≡◌, ℕ, suc, ◌+◌, ◌-◌, ◌*◌, ◌<◌, ◌≤◌, Bool, List, [], ◌∷◌, ◌++◌, map, length, take, drop, set, replicate, Some, None, Result, sym, refl, ap, ◌∙◌, subst, inl, inr, add-one, arith, below_more}
+use Rattle.std.proofs.Common.{◌≡◌, ℕ, ◌+◌, ◌-◌, ◌<◌, ◌≤◌, Bool, List, [], ◌∷◌, ◌++◌, map, length, take, drop, set, replicate, Some, None, Result, sym, ap, ◌∙◌, subst, inl, inr, add-one, arith, below_more}
 use Rattle.std.specs.List.{range_with_len}
 use Rattle.std.proofs.lemmas.List.FromFn.{map-range_with_len_more}
 use Rattle.std.proofs.lemmas.List.{length-set, length-take-le, take_more_set, drop-set-lt, drop-drop, drop-replicate}
 use Rattle.std.proofs.lemmas.Bool.{cases_eq}
 use Rattle.mitl.specs.declared.Row.{Row}
 use Rattle.mitl.specs.declared.Row.TheVariants.{Input}
-use Rattle.table.specs.Chain.{on_chain, fields_at, letter_at, row_in, row_faults, chain_faults, chain_length, rows_before, numbers_before}
+use Rattle.table.specs.Chain.{on_chain, fields_at, row_in, row_faults, chain_faults, chain_length, rows_before, numbers_before}
 use Rattle.table.specs.Steps.{DraftOf, Stepped}
 use Rattle.table.specs.Layout.{rows_told, row_start}
 use Rattle.refusal.specs.Faults.{first_fault}
-use Rattle.table.specs.declared.Draft.{Draft}
 use Rattle.refusal.specs.declared.Refusal.{Refusal}
 use Rattle.table.specs.declared.fault.RowFault.{RowFault}
 use Rattle.table.specs.declared.row.Step.{Step}

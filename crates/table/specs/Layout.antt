@@ -1,5 +1,5 @@
 -- The bytes of a table: a head of eight, and sixteen for each row, numbered from 1. Assumes nothing.
-use Rattle.std.specs.Prelude.{ℕ, ◌+◌, ◌-◌, ◌*◌, Bool, ◌&&◌, List, take, drop, ◌==◌, slice_index}
+use Rattle.std.specs.Prelude.{ℕ, ◌+◌, ◌-◌, ◌*◌, ◌&&◌, List, take, drop, ◌==◌, slice_index}
 use Rattle.table.specs.declared.row.Fields.{Fields}
 
 abbrev pub byte_at : List ℕ → ℕ → ℕ

@@ -4,7 +4,6 @@ use Rattle.mitl.specs.declared.Row.{Row}
 use Rattle.mitl.specs.declared.Row.TheVariants.{Input}
 use Rattle.table.specs.declared.Draft.{Draft}
 use Rattle.table.specs.declared.Head.{Head}
-use Rattle.refusal.specs.declared.Refusal.{Refusal}
 use Rattle.table.specs.declared.fault.RowFault.{RowFault}
 use Rattle.table.specs.declared.fault.TableFault.{TableFault}
 use Rattle.table.specs.declared.row.Fields.{Fields}

@@ -3,6 +3,9 @@
 //! A table is a head of eight bytes and rows of sixteen bytes, numbered from 1. Its rows are taken along the
 //! chain that begins at the head's first row and goes on by each row's next. The first fault along the chain
 //! refuses the table; a table without a fault becomes a plan.
+
+#![tactic(auto)]
+
 ghost use Rattle.std.specs.Prelude.{◌≡◌, ℕ, ◌+◌, ◌*◌, ◌<◌, ◌≤◌, true, length, Ok};
 ghost use Rattle.table.specs.Steps.{Opened, Walked};
 ghost use Rattle.table.specs.Laws.{TablesTold};

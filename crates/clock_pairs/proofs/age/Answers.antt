@@ -1,6 +1,5 @@
 -- Each episode ages in its place, unless it is dropped. Assumes nothing.
-use Rattle.std.proofs.Common.{◌≡◌, ℕ, ◌+◌, ◌≤◌, List, length, set, sym, ap, ◌∙◌, subst, ap₂, arith, rules}
-use Rattle.clock_pairs.specs.declared.Episode.{Episode}
+use Rattle.std.proofs.Common.{◌≡◌, ◌+◌, set, sym, ap, ◌∙◌, subst, arith}
 use Rattle.clock_pairs.specs.Episodes.{episode, older}
 use Rattle.clock_pairs.proofs.Ageing.{Aged, aged_start, same_here, aged_goes, aged_stays, aged_many, aged_stand}
 use Rattle.clock_pairs.proofs.age.Goals as goal

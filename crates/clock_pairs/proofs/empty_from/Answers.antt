@@ -1,6 +1,6 @@
 -- The test of the empty places. Assumes nothing.
-use Rattle.std.proofs.Common.{◌≡◌, ℕ, ◌+◌, Bool, true, false, ◌&&◌, eqb, get_or, drop, sym, refl, ap, ◌∙◌, ap₂, arith}
-use lib.Bits.{bit_and, bit_or, or_add_and, and_le_l, and_le_r}
+use Rattle.std.proofs.Common.{◌≡◌, ℕ, ◌+◌, Bool, true, false, ◌&&◌, eqb, get_or, drop, sym, refl, ap, ◌∙◌, arith}
+use lib.Bits.{bit_or, or_add_and, and_le_l, and_le_r}
 use Rattle.std.proofs.lemmas.Bool.Decides.{nat_tests}
 use Rattle.clock_pairs.specs.Episodes.{episode, vacant}
 use Rattle.clock_pairs.proofs.Loops.{vacant_step, vacant_end}

@@ -1,7 +1,6 @@
 -- The test of the room without a division. Assumes nothing.
 use Rattle.std.proofs.Common.{◌≡◌, ℕ, ◌+◌, ◌-◌, ◌*◌, ◌/◌, ◌<◌, ◌≤◌, ltb, leb, ◌⊎◌, sym, ◌∙◌, inl, inr, div-lt_iff_lt-mul, arith}
 use Rattle.std.proofs.lemmas.Bool.{cases_lt, lt-ltb, le-ltb, le-leb, lt-leb}
-use Rattle.mitl.specs.Memory.{most_stretches_lem}
 use Rattle.clock_pairs.proofs.has_room.Goals as goal
 
 room : (x k : ℕ) → 0 < k → ltb x (32 * k) ≡ leb (1 + x / k) 32

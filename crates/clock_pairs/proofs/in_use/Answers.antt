@@ -1,5 +1,5 @@
 -- There are no more of them than places. Assumes nothing.
-use Rattle.std.proofs.Common.{sym, ◌∙◌, arith}
+use Rattle.std.proofs.Common.{arith}
 use Rattle.std.proofs.lemmas.List.{length-take}
 use Rattle.clock_pairs.proofs.in_use.Goals as goal
 

@@ -11,7 +11,7 @@ returns g c =
     let o = g.M.WindowMemory.meaning in
     let rows = rows_of c.args.plan.now in
     let xs = c.args.part.now in
-    let ys = c.clear-first.new.part in
+    let ys = c.clear_first.new.part in
     let changed : Changed o cleared (timed_rows rows) xs ys =
-    subst (λ n. Changed o cleared n xs ys) c.timed.ensures (changed_all o cleared c.timed.result c.min-end.result xs ys c.min-end.ensures c.clear-first.auto.part c.clear-first.ensures) in
-    record { memories = changed; means = cleared_means o rows xs ys c.clear-first.auto.part changed }
+    subst (λ n. Changed o cleared n xs ys) c.timed.ensures (changed_all o cleared c.timed.result c.min-end.result xs ys c.min-end.ensures c.clear_first.auto.part c.clear_first.ensures) in
+    record { memories = changed; means = cleared_means o rows xs ys c.clear_first.auto.part changed }

@@ -5,13 +5,13 @@ use Rattle.plan.specs.Sound.{row_ok}
 use Rattle.plan.proofs.Below.{all_from, all_fails}
 use Rattle.plan.proofs.each_fits.Goals as goal
 
-pub returns-then-not-row-fits : goal.returns-then-not-row-fits
-returns-then-not-row-fits c =
+pub returns-then-not-row_fits : goal.returns-then-not-row_fits
+returns-then-not-row_fits c =
     let rows = c.args.rows.now in
-    sym (all_fails (λ k. row_ok rows k (row_at rows k)) c.args.count c.loop-k.k c.loop-k-test.true (sym {b = row_ok rows c.loop-k.k (row_at rows c.loop-k.k)} c.if-not-row-fits.ensures))
+    sym (all_fails (λ k. row_ok rows k (row_at rows k)) c.args.count c.loop-k.k c.loop-k-test.true (sym {b = row_ok rows c.loop-k.k (row_at rows c.loop-k.k)} c.if-not-row_fits.ensures))
 
 pub loop-k-preserved : goal.loop-k-preserved
-loop-k-preserved c = below_more _ _ c.loop-k.invariant (sym c.if-not-row-fits.ensures)
+loop-k-preserved c = below_more _ _ c.loop-k.invariant (sym c.if-not-row_fits.ensures)
 
 pub returns : goal.returns
 returns c =

@@ -3,16 +3,16 @@ use Rattle.std.proofs.lemmas.List.{take_all}
 use Rattle.share.specs.Ticks.{of_car, car_ticks}
 use Rattle.share.proofs.Sums.{counted_more, passed_more}
 use Rattle.share.proofs.car_time.Goals as goal
-use Rattle.share.proofs.car_time.Goals.{then-is-of, else-is-of}
+use Rattle.share.proofs.car_time.Goals.{then-is_of, else-is_of}
 
 pub loop-note-preserved : goal.loop-note-preserved
 loop-note-preserved c =
-    elim c.if-is-of.branch [
-      | then-is-of w ↦
-          let e = counted_more (of_car c.args.car) c.args.notes.now c.loop-note.note-index _ (omega arith) (sym w.if-is-of.ensures) in
+    elim c.if-is_of.branch [
+      | then-is_of w ↦
+          let e = counted_more (of_car c.args.car) c.args.notes.now c.loop-note.note-index _ (omega arith) (sym w.if-is_of.ensures) in
           (omega (arith, e), omega arith)
-      | else-is-of w ↦
-          let e = passed_more (of_car c.args.car) c.args.notes.now c.loop-note.note-index _ (omega arith) (sym w.if-is-of.ensures) in
+      | else-is_of w ↦
+          let e = passed_more (of_car c.args.car) c.args.notes.now c.loop-note.note-index _ (omega arith) (sym w.if-is_of.ensures) in
           (omega (arith, e), omega arith)
     ]
 

@@ -4,34 +4,34 @@ use Rattle.sheet.specs.Pieces.{Fields, Spaceless}
 use Rattle.sheet.proofs.Spaces.{no_letter, no_second, no_third, all_laid}
 use Rattle.sheet.proofs.fields.Goals as goal
 
-pub returns-in-err-rest : goal.returns-in-err-rest
-returns-in-err-rest c =
+pub returns-in_err-rest : goal.returns-in_err-rest
+returns-in_err-rest c =
     let line = c.args.line.now in
-    subst (Fields line) (sym c.from-residual.ensures) (no_letter line c.in-err-rest.ensures)
+    subst (Fields line) (sym c.from_residual.ensures) (no_letter line c.in_err-rest.ensures)
 
-pub returns-in-err-car : goal.returns-in-err-car
-returns-in-err-car c =
+pub returns-in_err-car : goal.returns-in_err-car
+returns-in_err-car c =
     let line = c.args.line.now in
-    let t = c.in-ok-rest.rest in
-    subst (Fields line) (sym c.from-residual-in-err-car.ensures) (no_second line t.now c.in-ok-rest.ensures (split_parts 32 t.now None c.in-err-car.ensures.cases (omega arith)))
+    let t = c.in_ok-rest.rest in
+    subst (Fields line) (sym c.from_residual-in_err-car.ensures) (no_second line t.now c.in_ok-rest.ensures (split_parts 32 t.now None c.in_err-car.ensures.cases (omega arith)))
 
-pub returns-in-err-word : goal.returns-in-err-word
-returns-in-err-word c =
+pub returns-in_err-word : goal.returns-in_err-word
+returns-in_err-word c =
     let line = c.args.line.now in
-    let t = c.in-ok-rest.rest in
-    let a = c.in-ok-car.car in
-    let u = c.in-ok-car.rest in
-    let cut : (b y : List ℕ) → Spaceless b → t.now ≡ b ++ (32 ∷ y) → u.now ≡ y = λ b y none e. (split_after 32 t.now b y (Some (a, u)) c.in-ok-car.ensures.cases (omega arith) e none).1 in
-    subst (Fields line) (sym c.from-residual-in-err-word.ensures) (no_third line t.now c.in-ok-rest.ensures u.now cut (split_parts 32 u.now None c.in-err-word.ensures.cases (omega arith)))
+    let t = c.in_ok-rest.rest in
+    let a = c.in_ok-car.car in
+    let u = c.in_ok-car.rest in
+    let cut : (b y : List ℕ) → Spaceless b → t.now ≡ b ++ (32 ∷ y) → u.now ≡ y = λ b y none e. (split_after 32 t.now b y (Some (a, u)) c.in_ok-car.ensures.cases (omega arith) e none).1 in
+    subst (Fields line) (sym c.from_residual-in_err-word.ensures) (no_third line t.now c.in_ok-rest.ensures u.now cut (split_parts 32 u.now None c.in_err-word.ensures.cases (omega arith)))
 
 pub returns : goal.returns
 returns c =
     let line = c.args.line.now in
-    let t = c.in-ok-rest.rest in
-    let a = c.in-ok-car.car in
-    let u = c.in-ok-car.rest in
-    let b = c.in-ok-word.word in
-    let d = c.in-ok-word.ticks in
-    let first = split_parts 32 t.now (Some (a, u)) c.in-ok-car.ensures.cases (omega arith) in
-    let second = split_parts 32 u.now (Some (b, d)) c.in-ok-word.ensures.cases (omega arith) in
-    (all_laid line t.now c.in-ok-rest.ensures a.now u.now b.now d.now first.0 second.0, first.1, second.1)
+    let t = c.in_ok-rest.rest in
+    let a = c.in_ok-car.car in
+    let u = c.in_ok-car.rest in
+    let b = c.in_ok-word.word in
+    let d = c.in_ok-word.ticks in
+    let first = split_parts 32 t.now (Some (a, u)) c.in_ok-car.ensures.cases (omega arith) in
+    let second = split_parts 32 u.now (Some (b, d)) c.in_ok-word.ensures.cases (omega arith) in
+    (all_laid line t.now c.in_ok-rest.ensures a.now u.now b.now d.now first.0 second.0, first.1, second.1)

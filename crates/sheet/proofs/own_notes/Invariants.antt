@@ -3,4 +3,4 @@ use Rattle.share.specs.Ticks.{of_car}
 use Rattle.sheet.proofs.own_notes.Given as goal
 
 abbrev pub invariant-loop-note : goal.invariant-loop-note
-invariant-loop-note l = vec_items l.own_val ≡ filter (of_car l.car) (take l.note-index l.notes)
+invariant-loop-note l = vec_items l.own ≡ filter (of_car l.car) (take l.note-index l.notes)

@@ -1,5 +1,5 @@
 -- Marks after some ticks. Assumes nothing.
-use Rattle.std.proofs.Common.{◌+◌, ◌-◌, ◌&&◌, ◌||◌, ltb, leb, sym, ap, ◌∙◌, ap₂, arith}
+use Rattle.std.proofs.Common.{◌+◌, ◌&&◌, ◌||◌, ltb, leb, sym, ap, ◌∙◌, ap₂, arith}
 use Rattle.std.proofs.lemmas.Bool.{and_parts}
 use Rattle.mitl.specs.Memory.{took, taken}
 use Rattle.bit_marks.specs.Marks.{marked, served, ends_by}
@@ -14,7 +14,7 @@ returns c =
     let p = parts m c.requires in
     marks_mean m.a m.b c.advanced-words.result (taken m.a m.b v n (marked m.words))
     (and_parts (served m.a m.b) (ends_by m.b m.words) c.requires).0
-    (λ d. c.advanced-words.ensures d ∙ ap₂ (λ x y. marked m.words (d + n) || (leb x d && ltb d y)) c.saturating-sub-first.ensures c.set-end-end.ensures
+    (λ d. c.advanced-words.ensures d ∙ ap₂ (λ x y. marked m.words (d + n) || (leb x d && ltb d y)) c.saturating_sub-first.ensures c.set_end-end.ensures
     ∙ taken_is m.a m.b n d v (marked m.words) (omega (arith, p.order)))
     (λ d h. taken_none m.a m.b n d v (marked m.words) (omega (arith, p.order)) p.none h)
     ∙ ap (took v n) (sym (when_sound m c.requires))

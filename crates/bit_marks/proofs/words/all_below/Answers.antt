@@ -8,19 +8,19 @@ use Rattle.bit_marks.proofs.words.all_below.Goals as goal
 pub loop-at-init : goal.loop-at-init
 loop-at-init c d h p = absurd (omega arith)
 
-pub returns-then-word-at-below-ne0 : goal.returns-then-word-at-below-ne0
-returns-then-word-at-below-ne0 c =
+pub returns-then-word_at-below-ne0 : goal.returns-then-word_at-below-ne0
+returns-then-word_at-below-ne0 c =
     ⊎_elim
-    (λ e. absurd (c.if-word-at-below-ne0.true
-    (rest_zero c.args.words.now c.args.b c.loop-at.at c.word-at.result c.below.result c.word-at.ensures
-    c.below.type-inv c.below.ensures c.word-at.type-inv ((ends_decided c.args.b c.args.words.now).0 e))))
+    (λ e. absurd (c.if-word_at-below-ne0.true
+    (rest_zero c.args.words.now c.args.b c.loop-at.at c.word_at.result c.below.result c.word_at.ensures
+    c.below.type_inv c.below.ensures c.word_at.type_inv ((ends_decided c.args.b c.args.words.now).0 e))))
     (λ e. sym e) (cases_Bool (ends_by c.args.b c.args.words.now))
 
 pub loop-at-preserved : goal.loop-at-preserved
 loop-at-preserved c d h p =
     ⊎_elim (λ l. c.loop-at.invariant d h l)
-    (λ (l : 64 * c.loop-at.at ≤ d). rest_none c.args.words.now c.args.b c.loop-at.at c.word-at.result c.below.result c.word-at.ensures
-    c.below.type-inv c.below.ensures c.if-word-at-below-ne0.false d h l p)
+    (λ (l : 64 * c.loop-at.at ≤ d). rest_none c.args.words.now c.args.b c.loop-at.at c.word_at.result c.below.result c.word_at.ensures
+    c.below.type_inv c.below.ensures c.if-word_at-below-ne0.false d h l p)
     (cases_lt d (64 * c.loop-at.at))
 
 pub returns : goal.returns

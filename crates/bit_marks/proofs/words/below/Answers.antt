@@ -8,7 +8,7 @@ use Rattle.bit_marks.proofs.words.below.Goals as goal
 
 pub returns-then-count-lt64 : goal.returns-then-count-lt64
 returns-then-count-lt64 c k h =
-    let count : ℕ = c.saturating-sub-count.result in
+    let count : ℕ = c.saturating_sub-count.result in
     ap (λ x. bit k (x - 1)) (one_shl count 64 c.if-count-lt64.true) ∙ ones_bit k count ∙ grind (arith, nat_tests)
 
 pub returns-else-count-lt64 : goal.returns-else-count-lt64

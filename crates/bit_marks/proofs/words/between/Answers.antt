@@ -7,4 +7,4 @@ use Rattle.bit_marks.proofs.words.between.Goals as goal
 pub returns : goal.returns
 returns c k h =
     and_bit k c.below.result (18446744073709551615 - c.below-2.result)
-    ∙ ap₂ ◌&&◌ (c.below.ensures k h) (not_bit k 64 c.below-2.result h c.below-2.type-inv ∙ ap not (c.below-2.ensures k h)) ∙ grind (arith, nat_tests)
+    ∙ ap₂ ◌&&◌ (c.below.ensures k h) (not_bit k 64 c.below-2.result h c.below-2.type_inv ∙ ap not (c.below-2.ensures k h)) ∙ grind (arith, nat_tests)

@@ -7,5 +7,5 @@ use Rattle.bit_marks.proofs.words.from_mark.Goals as goal
 pub returns : goal.returns
 returns c k h =
     c.joined.ensures k h
-    ∙ ap₂ (λ x y. cond (ltb (k + c.args.d % 64) 64) (bit (k + c.args.d % 64) x) (bit (k + c.args.d % 64 - 64) y)) c.word-at.ensures c.word-at-2.ensures
+    ∙ ap₂ (λ x y. cond (ltb (k + c.args.d % 64) 64) (bit (k + c.args.d % 64) x) (bit (k + c.args.d % 64 - 64) y)) c.word_at.ensures c.word_at-2.ensures
     ∙ from_place c.args.words.now c.args.d k h

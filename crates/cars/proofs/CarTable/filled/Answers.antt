@@ -1,4 +1,4 @@
-use Rattle.std.proofs.Common.{◌≡◌, ℕ, ◌≤◌, false, length, sym, ◌∙◌, subst, arith, below_more}
+use Rattle.std.proofs.Common.{◌≡◌, false, length, sym, ◌∙◌, subst, arith, below_more}
 use Rattle.cars.specs.Cars.{Filled, wrong_car}
 use Rattle.cars.proofs.Places.{filled_more, refused_is, no_position, first_position}
 use Rattle.cars.proofs.CarTable.filled.Goals as goal

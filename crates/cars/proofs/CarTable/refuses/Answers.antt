@@ -1,4 +1,4 @@
-use Rattle.std.proofs.Common.{◌≡◌, ◌||◌, is_some, sym, ap, ◌∙◌}
+use Rattle.std.proofs.Common.{◌||◌, is_some, ap, ◌∙◌}
 use Rattle.cars.specs.Cars.{cars_of, listed}
 use Rattle.cars.proofs.Places.{place_listed}
 use Rattle.cars.proofs.CarTable.refuses.Goals as goal
@@ -7,4 +7,4 @@ pub returns-else-same : goal.returns-else-same
 returns-else-same c =
     let cs = cars_of c.args.self.now in
     let car = c.args.car in
-    c.is-some.ensures ∙ ap is_some c.find.ensures ∙ place_listed 0 cs car ∙ ap (λ b. b || listed cs car) c.if-same.ensures
+    c.is_some.ensures ∙ ap is_some c.find.ensures ∙ place_listed 0 cs car ∙ ap (λ b. b || listed cs car) c.if-same.ensures

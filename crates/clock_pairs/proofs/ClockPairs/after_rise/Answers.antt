@@ -1,5 +1,5 @@
 -- Ticks at which the operand is yes and an episode rises. Assumes nothing.
-use Rattle.std.proofs.Common.{◌≡◌, ◌+◌, ◌-◌, ◌<◌, ◌≤◌, min, false, ltb, leb, [], ◌∷◌, length, get_or, drop, sym, ap, ◌∙◌, subst, inl, inr, zero-add, arith, rules}
+use Rattle.std.proofs.Common.{◌≡◌, ◌+◌, ◌-◌, ◌<◌, min, false, ltb, leb, [], ◌∷◌, length, get_or, drop, sym, ap, ◌∙◌, subst, inl, inr, zero-add, arith, rules}
 use Rattle.std.proofs.lemmas.Bool.{and_cases, cases_lt, leb-false, ltb-false}
 use Rattle.clock_pairs.specs.declared.Episode.{Episode}
 use Rattle.clock_pairs.specs.declared.ClockPairs.{ClockPairs}

@@ -1,5 +1,5 @@
 -- The reply on the run that begins. Assumes nothing.
-use Rattle.std.proofs.Common.{◌≡◌, ◌-◌, ◌<◌, true, false, ◌⊎◌, [], length, get_or, take, Some, sym, ap, subst, ⊎_elim, arith, rules}
+use Rattle.std.proofs.Common.{◌≡◌, ◌-◌, ◌<◌, true, false, [], length, get_or, take, Some, sym, ap, subst, ⊎_elim, arith, rules}
 use Rattle.std.proofs.lemmas.Bool.{both_ways}
 use Rattle.mitl.specs.Memory.{ahead, Lasts}
 use Rattle.clock_pairs.specs.Episodes.{episode, reached}

@@ -11,16 +11,16 @@ Next v r o = r.0 ≡ ahead o.a v o.mark 0
 abbrev Long : Bool → Bool × Option ℕ → Meaning → Type 0
 Long v r o = Lasts (ahead o.a v o.mark) r.0 r.1
 
-pub returns-then-is-sound : goal.returns-then-is-sound
-returns-then-is-sound c =
-    let is = sym (when_sound c.args.self.now (sym c.if-is-sound.ensures)) in
+pub returns-then-is_sound : goal.returns-then-is_sound
+returns-then-is_sound c =
+    let is = sym (when_sound c.args.self.now (sym c.if-is_sound.ensures)) in
     let v = c.args.operand in
     let r = c.forecast.result in
     record { next = subst (Next v r) is c.forecast.ensures.next; lasts = subst (Long v r) is c.forecast.ensures.lasts }
 
-pub returns-else-is-sound : goal.returns-else-is-sound
-returns-else-is-sound c =
-    let is = sym (when_not c.args.self.now (sym c.if-is-sound.ensures)) in
+pub returns-else-is_sound : goal.returns-else-is_sound
+returns-else-is_sound c =
+    let is = sym (when_not c.args.self.now (sym c.if-is_sound.ensures)) in
     let v = c.args.operand in
     let r = c.idle.result in
     record { next = subst (Next v r) is c.idle.ensures.next; lasts = subst (Long v r) is c.idle.ensures.lasts }

@@ -3,7 +3,7 @@ use Rattle.std.proofs.Common.{sym}
 use Rattle.clock_pairs.proofs.Hold.{when_sound}
 use Rattle.clock_pairs.proofs.ClockPairs.settle.Goals as goal
 
-pub returns-then-is-sound : goal.returns-then-is-sound
-returns-then-is-sound c =
-    let is = sym c.if-is-sound.ensures in
+pub returns-then-is_sound : goal.returns-then-is_sound
+returns-then-is_sound c =
+    let is = sym c.if-is_sound.ensures in
     record { sound = is; means = when_sound c.args.self.now is }

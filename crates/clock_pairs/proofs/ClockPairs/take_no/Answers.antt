@@ -7,17 +7,17 @@ use Rattle.clock_pairs.proofs.Hold.{served_parts, sound_parts, vacant_after, con
 use Rattle.clock_pairs.proofs.Takes.{takes_none}
 use Rattle.clock_pairs.proofs.ClockPairs.take_no.Goals as goal
 
-pub grow-old-requires : goal.grow-old-requires
-grow-old-requires c = (omega arith, (sound_parts c.args.self.now c.requires).room)
+pub grow_old-requires : goal.grow_old-requires
+grow_old-requires c = (omega arith, (sound_parts c.args.self.now c.requires).room)
 
 pub returns : goal.returns
 returns c v idle =
     let m = c.args.self.now in
     let n = c.args.n in
-    let then = c.grow-old.new.self in
+    let then = c.grow_old.new.self in
     let s = sound_parts m c.requires in
     let es = lasting m.b n (held m) in
-    let out = c.grow-old.ensures in
+    let out = c.grow_old.ensures in
     let gaps = apart_lasting m.a m.b (served_parts m.a m.b s.window).upto n 0 0 (held m) (omega arith) s.gaps in
     content_means then m.a m.b es (replicate (m.len - then.len) (episode 0 0) ++ drop m.len m.episodes) out.window.0 out.window.1 out.many out.stand
     (vacant_after (m.len - then.len) (drop m.len m.episodes) ∙ s.rest) s.window gaps

@@ -1,5 +1,5 @@
 -- Ticks at which the operand is yes and goes on with the newest episode. Assumes nothing.
-use Rattle.std.proofs.Common.{◌≡◌, ℕ, zero, suc, ◌+◌, ◌-◌, ◌<◌, ◌≤◌, min, true, ltb, leb, List, [], ◌∷◌, ◌++◌, length, get_or, take, drop, set, replicate, sym, refl, ap, ◌∙◌, subst, ap₂, arith, rules}
+use Rattle.std.proofs.Common.{◌≡◌, ℕ, zero, suc, ◌+◌, ◌-◌, ◌<◌, ◌≤◌, min, true, ltb, leb, List, [], ◌∷◌, ◌++◌, length, get_or, take, drop, set, replicate, sym, refl, ap, ◌∙◌, subst, arith, rules}
 use Rattle.std.proofs.lemmas.Bool.{and_parts, leb-true, ltb-true}
 use Rattle.mitl.specs.Memory.{took}
 use Rattle.clock_pairs.specs.declared.Episode.{Episode}
@@ -32,8 +32,8 @@ behind_it zero xs e lt = absurd (omega arith)
 behind_it (suc k) [] e lt = refl
 behind_it (suc k) (x ∷ xs) e lt = refl
 
-pub grow-old-requires : goal.grow-old-requires
-grow-old-requires c =
+pub grow_old-requires : goal.grow_old-requires
+grow_old-requires c =
     let m = c.args.self.now in
     let on = near m (sym c.requires.on) in
     (omega arith, (sound_parts m c.requires.sound).room)
@@ -42,7 +42,7 @@ pub returns : goal.returns
 returns c =
     let m = c.args.self.now in
     let n = c.args.n in
-    let then = c.grow-old.new.self in
+    let then = c.grow_old.new.self in
     let s = sound_parts m c.requires.sound in
     let on = near m (sym c.requires.on) in
     let full : length m.episodes ≡ 32 = search rules in
@@ -55,7 +55,7 @@ returns c =
     let old-gaps = subst (Apart m.a m.b 0) head s.gaps in
     let gaps = apart_on m.a m.b (served_parts m.a m.b s.window).upto n e rest old-gaps in
     let was = replaced m.b n m.len m.episodes (episode c.grown-rise.result 0) on.0 some ∙ ap (λ r. episode r 0 ∷ lasting m.b n rest) c.grown-rise.ensures in
-    let out = c.grow-old.ensures in
+    let out = c.grow_old.ensures in
     let back = drop m.len (set m.episodes 0 (episode c.grown-rise.result 0)) in
     let zs = replicate (m.len - then.len) (episode 0 0) ++ back in
     content_means then m.a m.b es zs out.window.0 out.window.1 (out.many ∙ ap length was) (out.stand ∙ ap (λ xs. xs ++ zs) was)

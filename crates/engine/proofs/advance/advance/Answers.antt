@@ -6,8 +6,8 @@ use Rattle.engine.proofs.Plans.{used_most, used_row, used_readable, used_place, 
 use Rattle.engine.proofs.Taking.{advanced_more, advanced_all}
 use Rattle.engine.proofs.advance.advance.Goals as goal
 
-pub advance-row-at-requires : goal.advance-row-at-requires
-advance-row-at-requires g c =
+pub advance_row-at-requires : goal.advance_row-at-requires
+advance_row-at-requires g c =
     let p = c.args.plan.now in
     let k = c.loop-k.k in
     let lt : k < p.count = c.loop-k-test.true in (
@@ -21,9 +21,9 @@ loop-k-preserved g c =
     let p = c.args.plan.now in
     let k = c.loop-k.k in
     let same = used_row p.rows p.count p.few p.each k c.loop-k-test.true in (
-      timed_step (rows_of p) k (row_at p.rows k) c.loop-k.at c.advance-row-at.result same c.loop-k.invariant.0 c.advance-row-at.ensures.behind,
-      advanced_more g.M.WindowMemory.meaning (rows_of p) (reading c.args.vs.now) c.args.n k c.args.part.now c.loop-k.part c.advance-row-at.new.part (row_at p.rows k) c.loop-k.at
-          c.loop-k.invariant.1 same c.loop-k.invariant.0 c.advance-row-at.ensures.told c.advance-row-at.ensures.still,
+      timed_step (rows_of p) k (row_at p.rows k) c.loop-k.at c.advance_row-at.result same c.loop-k.invariant.0 c.advance_row-at.ensures.behind,
+      advanced_more g.M.WindowMemory.meaning (rows_of p) (reading c.args.vs.now) c.args.n k c.args.part.now c.loop-k.part c.advance_row-at.new.part (row_at p.rows k) c.loop-k.at
+          c.loop-k.invariant.1 same c.loop-k.invariant.0 c.advance_row-at.ensures.told c.advance_row-at.ensures.still,
     )
 
 pub returns : goal.returns

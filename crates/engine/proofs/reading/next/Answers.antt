@@ -23,10 +23,10 @@ loop-k-preserved g c =
     let same = used_row p.rows p.count p.few p.each k c.loop-k-test.true in (
       timed_step (rows_of p) k (row_at p.rows k) c.loop-k.at c.settle-yes.result.2 same c.loop-k.invariant.0 c.settle-yes.ensures.behind,
       length-set c.loop-k.readings k c.settle-yes.result.0 ∙ c.loop-k.invariant.1,
-      foreseen_more g.M.WindowMemory.meaning (rows_of p) c.args.word c.args.part.now k c.loop-k.readings c.loop-k.verdict c.loop-k.lasts c.settle-yes.result.0 c.settle-yes.result.1 c.with-row-verdict.result c.shorter-of-lasts.result
+      foreseen_more g.M.WindowMemory.meaning (rows_of p) c.args.word c.args.part.now k c.loop-k.readings c.loop-k.verdict c.loop-k.lasts c.settle-yes.result.0 c.settle-yes.result.1 c.with_row-verdict.result c.shorter_of-lasts.result
           (λ j low. used_earlier p.rows p.count p.few p.each j (omega (arith, c.loop-k-test.true))) (omega (arith, c.loop-k.invariant.1, p.few, c.loop-k-test.true)) c.loop-k.invariant.2
           (row_at p.rows k) c.loop-k.at same c.loop-k.invariant.0
-          c.settle-yes.ensures.lasts c.with-row-verdict.ensures c.shorter-of-lasts.ensures (omega arith),
+          c.settle-yes.ensures.lasts c.with_row-verdict.ensures c.shorter_of-lasts.ensures (omega arith),
     )
 
 pub returns : goal.returns

@@ -9,8 +9,8 @@ pub returns : goal.returns
 returns g c =
     let p = c.args.plan.now in
     let s = c.args.step.now in
-    let n = c.capped-at-n.result in
-    let is = c.capped-at-n.ensures in
+    let n = c.capped_at-n.result in
+    let is = c.capped_at-n.ensures in
     let pos : 0 < n = omega (arith, is, capped_positive s.lasts c.args.most c.requires.2.some c.requires.1) in
     record {
       ticks = is;

@@ -13,7 +13,7 @@ loop-n-preserved g c =
     let inv = c.loop-n.invariant in (
       omega (arith, inv.0, c.hold-n.auto.part),
       omega arith,
-      same_word c.next-step.result.word c.args.first.word c.if-not-goes-on.ensures,
+      same_word c.next-step.result.word c.args.first.word c.if-not-goes_on.ensures,
       c.next-step.ensures,
       held_more g.M.WindowMemory.meaning (rows_of c.args.plan.now) c.args.word c.args.first.word c.args.part.now c.loop-n.part c.hold-n.new.part c.loop-n.n c.hold-n.result c.loop-n.step.word
           inv.4 inv.2 c.hold-n.ensures.held,
@@ -29,8 +29,8 @@ returns-then-n-most g c =
       after = λ lt. absurd (omega arith);
     }
 
-pub returns-then-not-goes-on : goal.returns-then-not-goes-on
-returns-then-not-goes-on g c =
+pub returns-then-not-goes_on : goal.returns-then-not-goes_on
+returns-then-not-goes_on g c =
     let p = c.args.plan.now in
     let inv = c.loop-n.invariant in
     let some = c.hold-n.ensures.some in
@@ -38,6 +38,6 @@ returns-then-not-goes-on g c =
     record {
       whole = whole_ended g.M.WindowMemory.meaning (rows_of p) c.args.word c.args.most c.args.part.now c.loop-n.part c.hold-n.new.part c.args.first.word c.loop-n.n c.loop-n.step.word c.hold-n.result
           inv.4 inv.2 c.hold-n.ensures.held some.0 (omega (arith, some.1, inv.1))
-          (used_chained p.rows p.count p.few p.each) (used_proper p.rows p.count p.few p.each) step.readings step.word step.lasts c.next-step.ensures c.if-not-goes-on.ensures;
+          (used_chained p.rows p.count p.few p.each) (used_proper p.rows p.count p.few p.each) step.readings step.word step.lasts c.next-step.ensures c.if-not-goes_on.ensures;
       after = λ _. c.next-step.ensures;
     }

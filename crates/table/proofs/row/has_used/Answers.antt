@@ -4,13 +4,13 @@ use Rattle.mitl.specs.Rows.{row_at, is_rule}
 use Rattle.plan.proofs.Below.{some_from, some_none}
 use Rattle.table.proofs.row.has_used.Goals as goal
 
-pub returns-then-is-the-rule : goal.returns-then-is-the-rule
-returns-then-is-the-rule c =
+pub returns-then-is_the_rule : goal.returns-then-is_the_rule
+returns-then-is_the_rule c =
     let rows = c.args.rows.now in
-    sym (some_from (λ k. is_rule c.args.number (row_at rows k)) (length rows) c.loop-k.k c.loop-k-test.true (sym c.if-is-the-rule.ensures))
+    sym (some_from (λ k. is_rule c.args.number (row_at rows k)) (length rows) c.loop-k.k c.loop-k-test.true (sym c.if-is_the_rule.ensures))
 
 pub loop-k-preserved : goal.loop-k-preserved
-loop-k-preserved c = below_more _ _ c.loop-k.invariant (sym c.if-is-the-rule.ensures)
+loop-k-preserved c = below_more _ _ c.loop-k.invariant (sym c.if-is_the_rule.ensures)
 
 pub returns : goal.returns
 returns c =

@@ -10,4 +10,4 @@ returns c =
     let m = c.min.result in
     let low : m ≤ p.count = omega arith in
     let size : length (take m p.rows) ≡ m = search rules in
-    c.timed-among.ensures ∙ ap (timed_before (take m p.rows)) size ∙ timed_first p.rows m p.count m (omega arith) low ∙ ap (timed_before (rows_of p)) c.min.ensures
+    c.timed_among.ensures ∙ ap (timed_before (take m p.rows)) size ∙ timed_first p.rows m p.count m (omega arith) low ∙ ap (timed_before (rows_of p)) c.min.ensures
