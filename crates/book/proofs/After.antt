@@ -1,13 +1,12 @@
 -- What is true after any list of calls, from the contract of each. Assumes nothing.
-use Rattle.std.proofs.Common.{◌≡◌, ℕ, ◌*◌, ◌/◌, ◌<◌, ◌≤◌, Bool, true, false, cond, ◌↔◌, List, [], ◌∷◌, ◌++◌, map, length, get_or, replicate, is_some, Some, None, Option, sym, refl, ap, ◌∙◌, subst, ap₂, inl, inr, mul_comm, div-lt_iff_lt-mul, arith}
-use Rattle.std.specs.List.{range_with_len}
+use Rattle.std.proofs.Common.{◌≡◌, ℕ, ◌/◌, ◌<◌, ◌≤◌, Bool, true, false, cond, ◌↔◌, List, [], ◌∷◌, ◌++◌, length, get_or, replicate, is_some, Some, None, Option, sym, refl, ap, ◌∙◌, subst, ap₂, inl, inr, mul_comm, div-lt_iff_lt-mul, arith}
 use Rattle.std.proofs.lemmas.List.{append-nil}
 use Rattle.std.proofs.lemmas.Bool.{false≢true, not_from_true, cond-true, cond-false, cases_Bool}
 use Rattle.std.proofs.lemmas.List.FromFn.{length-map-range_with_len, get_or-map-range_with_len}
 use Rattle.mitl.specs.declared.Row.{Row}
 use Rattle.mitl.specs.Blocks.{row_looked}
 use Rattle.mitl.specs.Memory.{stretches, most_stretches_lem}
-use Rattle.mitl.specs.Outlook.{outlook, from, to, row_from, row_to}
+use Rattle.mitl.specs.Outlook.{outlook, to}
 use Rattle.mitl.specs.Rows.{row_at, is_timed, Chained, formula_at, formulas, verdict}
 use Rattle.mitl.proofs.Marks.{row_window}
 use Rattle.mitl.proofs.Stretches.{bounded}
@@ -25,11 +24,10 @@ use Rattle.table.specs.Chain.{rows_in, numbers_in, on_chain, row_in, chain_lengt
 use Rattle.plan.specs.Places.{place_among_lem}
 use Rattle.plan.proofs.Found.{found_place}
 use Rattle.engine.specs.Due.{due}
-use Rattle.engine.specs.Judged.{note}
-use Rattle.book.specs.Book.{Book, empty, rows_of_book, with_car, noted, due_runs, due_notes, restarted, finished, judged, entered}
-use Rattle.book.specs.Calls.{Call, set, feed, query, Answer, refused, planned, fed, shown, Event, shows, shown_at, if_timed, timed_in, timed_place, no_place, faults_of_call, call_refusal, accepted_answer, accepted_notes, Answered, Right, after_call, after_unless, next}
-use Rattle.book.specs.Runs.{after, Told, IsRefused, RefusedWhen, Step, Trace}
-use Rattle.book.specs.Promise.{VerdictsRight, asked, ShowsOutlooks, FewStretches, Holds, AfterAnyList, Alike, KindsAgree}
+use Rattle.book.specs.Book.{Book, empty, rows_of_book, noted, due_runs, due_notes, restarted, finished, judged, entered}
+use Rattle.book.specs.Calls.{Call, set, feed, query, Answer, refused, Event, shows, shown_at, if_timed, timed_in, timed_place, no_place, faults_of_call, call_refusal, accepted_answer, accepted_notes, Answered, Right, after_call, after_unless, next}
+use Rattle.book.specs.Runs.{after, Told, IsRefused, RefusedWhen, Trace}
+use Rattle.book.specs.Promise.{VerdictsRight, asked, ShowsOutlooks, FewStretches, AfterAnyList, KindsAgree}
 use Rattle.book.proofs.Spoken.{spoken, spoken_more, noted_is, cond_map}
 
 -- every written verdict is past MITL's

@@ -1,5 +1,5 @@
 -- The call book: what is known of a watch from the calls made on it and the notes that Feed wrote. Assumes nothing.
-use Rattle.std.specs.Prelude.{◌≡◌, ℕ, Bool, cond, List, [], ◌∷◌, ◌++◌, map, length, replicate}
+use Rattle.std.specs.Prelude.{ℕ, cond, List, [], ◌∷◌, ◌++◌, map, replicate}
 use Rattle.mitl.specs.declared.Row.{Row}
 use Rattle.mitl.specs.Runs.{Run, ticks}
 use Rattle.record.specs.declared.Car.{Car}

@@ -1,5 +1,5 @@
 -- The three calls, what is wrong with one, its one answer, and the book after it. Assumes nothing.
-use Rattle.std.specs.Prelude.{◌≡◌, ℕ, ◌*◌, Bool, true, false, cond, not, ◌&&◌, ◌||◌, List, [], ◌∷◌, ◌++◌, map, length, Some, None, Option, ◌==◌, nat_lt, slice_index}
+use Rattle.std.specs.Prelude.{◌≡◌, ℕ, ◌*◌, Bool, true, false, cond, not, ◌&&◌, ◌||◌, List, [], ◌∷◌, ◌++◌, length, Some, None, Option, ◌==◌, nat_lt, slice_index}
 use Rattle.mitl.specs.Blocks.{row_looked}
 use Rattle.mitl.specs.Memory.{Meaning, counted}
 use Rattle.mitl.specs.Rows.{row_at, is_timed, timed_rows}
@@ -9,7 +9,7 @@ use Rattle.refusal.specs.Faults.{Fault, fault, first_fault}
 use Rattle.record.specs.declared.Car.{Car}
 use Rattle.record.specs.declared.Note.{Note}
 use Rattle.record.specs.declared.Record.{Record}
-use Rattle.record.specs.Layout.{is_R, is_I, is_E, is_V, known, fields_at, field_faults, zero_fault}
+use Rattle.record.specs.Layout.{is_I, is_E, is_V, known, fields_at, field_faults, zero_fault}
 use Rattle.plan.specs.declared.Counts.{Counts}
 use Rattle.plan.specs.Places.{place_among_lem}
 use Rattle.plan.specs.Totals.{counts_of}

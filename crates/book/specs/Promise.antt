@@ -1,5 +1,5 @@
 -- What holds after any list of calls on a fresh watch. Assumes nothing.
-use Rattle.std.specs.Prelude.{◌≡◌, ℕ, ◌*◌, ◌/◌, ◌<◌, ◌≤◌, Bool, true, List, [], ◌∷◌, length, Some, slice_index}
+use Rattle.std.specs.Prelude.{◌≡◌, ℕ, ◌*◌, ◌/◌, ◌<◌, ◌≤◌, Bool, true, List, [], length, Some, slice_index}
 use Rattle.mitl.specs.Blocks.{row_looked}
 use Rattle.mitl.specs.Formulas.{parts}
 use Rattle.mitl.specs.Memory.{counted, most_stretches_lem}

@@ -1,9 +1,9 @@
 -- Runs of calls, one after another with nothing between. Assumes nothing.
-use Rattle.std.specs.Prelude.{◌≡◌, ℕ, Bool, true, ◌↔◌, List, [], ◌∷◌}
+use Rattle.std.specs.Prelude.{◌≡◌, ℕ, Bool, ◌↔◌, List, [], ◌∷◌}
 use Rattle.refusal.specs.declared.Refusal.{Refusal}
 use Rattle.refusal.specs.Faults.{SomeHeld}
 use Rattle.book.specs.Book.{Book}
-use Rattle.book.specs.Calls.{Answer, refused, Event, faults_of_call, Right, next}
+use Rattle.book.specs.Calls.{refused, Event, faults_of_call, Right, next}
 
 module _ (admitted : ℕ → ℕ → Bool) (room : ℕ) where
   -- the book after a list of calls

@@ -1,5 +1,8 @@
 //! The call book: what is known of a watch from the calls made on it and the notes that Feed wrote. The definitions
 //! stand in specs/; the contracts of the watch's calls cite them.
+
+#![tactic(auto)]
+
 ghost use Rattle.std.specs.Prelude.{◌≡◌};
 ghost use Rattle.book.specs.Promise.{BooksRight};
 

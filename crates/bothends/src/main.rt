@@ -1,6 +1,9 @@
 //! One car's history on both ends: the unit in the car judges its own records on bits, and the desk judges the same
 //! ticks on clock pairs, cut into other records and mixed with those of other cars. Prints the verdicts of both ends,
 //! in runs, and whether they agree tick by tick.
+
+#![tactic(auto)]
+
 mod one_end;
 mod runs;
 mod sample;

@@ -1,5 +1,8 @@
 //! Watches the cars of a line: standard input brings the cars, a rule table and records, and standard output gets a line
 //! for each reply. The windows are kept by clock pairs.
+
+#![tactic(auto)]
+
 use clock_pairs::ClockPairs;
 use line::serve;
 use window::WindowMemory;
@@ -8,7 +11,12 @@ use window::WindowMemory;
 const MEMORIES: usize = 64;
 
 fn run(rt: &HostRuntime) -> anyhow::Result<()> {
-    serve(&mut [ClockPairs::new(); MEMORIES], rt.stdin(), rt.stdout())?;
+    serve(
+        rt.alloc(),
+        &mut [ClockPairs::new(); MEMORIES],
+        rt.stdin(),
+        rt.stdout(),
+    )?;
     Ok(())
 }
 

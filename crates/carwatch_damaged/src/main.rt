@@ -1,5 +1,8 @@
 //! carwatch on a bad line: every third record is damaged or out of turn, and the last piece is cut off.
 //! The stored output is that of the slow reading.
+
+#![tactic(auto)]
+
 use clock_pairs::ClockPairs;
 use line::serve;
 use window::WindowMemory;
@@ -8,7 +11,12 @@ use window::WindowMemory;
 const MEMORIES: usize = 64;
 
 fn run(rt: &HostRuntime) -> anyhow::Result<()> {
-    serve(&mut [ClockPairs::new(); MEMORIES], rt.stdin(), rt.stdout())?;
+    serve(
+        rt.alloc(),
+        &mut [ClockPairs::new(); MEMORIES],
+        rt.stdin(),
+        rt.stdout(),
+    )?;
     Ok(())
 }
 

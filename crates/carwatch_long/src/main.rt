@@ -1,5 +1,8 @@
 //! carwatch on a long line: 314,547 ticks of three cars, windows of up to 20,000 ticks, and restarts.
 //! The stored output is that of the slow reading.
+
+#![tactic(auto)]
+
 use clock_pairs::ClockPairs;
 use line::serve;
 use window::WindowMemory;
@@ -8,7 +11,12 @@ use window::WindowMemory;
 const MEMORIES: usize = 64;
 
 fn run(rt: &HostRuntime) -> anyhow::Result<()> {
-    serve(&mut [ClockPairs::new(); MEMORIES], rt.stdin(), rt.stdout())?;
+    serve(
+        rt.alloc(),
+        &mut [ClockPairs::new(); MEMORIES],
+        rt.stdin(),
+        rt.stdout(),
+    )?;
     Ok(())
 }
 

@@ -1,4 +1,7 @@
 //! How long the engine takes for a record. With the word `run` it measures; else it says how to start it.
+
+#![tactic(auto)]
+
 use bit_marks::BitMarks;
 use clock_pairs::ClockPairs;
 use engine::feed;

@@ -1,5 +1,7 @@
 //! The engine on worked examples: each kind of window memory has one test, which drives what all kinds share.
 
+#![tactic(auto)]
+
 #[cfg(test)]
 mod tests {
     use bit_marks::BitMarks;

@@ -2,6 +2,9 @@
 //!
 //! The line may stay open. What a record has to say is out before the next one is waited for, and memory does not grow
 //! with what comes in.
+
+#![tactic(auto)]
+
 ghost use Rattle.std.specs.Prelude.{◌≡◌, ◌+◌, ◌*◌, ◌≤◌, length, IfOk};
 ghost use Rattle.line.specs.Rest.{Rest};
 
@@ -12,6 +15,7 @@ mod wire;
 use feed::serve_record;
 use plan::Counts;
 use record::{Car, Record};
+use std::alloc::Global;
 use std::io;
 use std::io::{Read, Write};
 use text::Text;
@@ -115,13 +119,15 @@ fn serve_records<M: WindowMemory, R: Read + Drop, W: Write + Drop>(
     Ok(())
 }
 
-// Serves a line from its first byte to its end, with these memories.
+// Serves a line from its first byte to its end, with these memories. Where there is no memory for the line's two buffers
+// it fails before the memories are touched.
 pub fn serve<M: WindowMemory, R: Read + Drop, W: Write + Drop>(
+    heap: Global,
     memories: &mut [M],
     input: R,
     output: W,
 ) -> io::Result<()> {
-    let mut wire = Wire::new(input, output);
+    let mut wire = Wire::new(heap, input, output)?;
     let mut watch = Watch::new(memories);
     let mut line = Text::new();
     match set(&mut wire, &mut watch)? {

@@ -1,8 +1,10 @@
 //! The two ends of a line, each behind a buffer of fixed size.
-ghost use Rattle.std.specs.Prelude.{◌≤◌, length, IfOk};
+ghost use Rattle.std.specs.Prelude.{◌≡◌, ◌≤◌, length, IfOk, IfErr};
+ghost use Rattle.std.specs.IoError.{error_kind};
 
+use std::alloc::Global;
 use std::io;
-use std::io::{BufReader, BufWriter, Read, Write};
+use std::io::{BufReader, BufWriter, ErrorKind, Read, Write};
 
 #[derive(Drop)]
 pub struct Wire<R: Read + Drop, W: Write + Drop> {
@@ -11,11 +13,14 @@ pub struct Wire<R: Read + Drop, W: Write + Drop> {
 }
 
 impl<R: Read + Drop, W: Write + Drop> Wire<R, W> {
-    pub fn new(input: R, output: W) -> Wire<R, W> {
-        Wire {
-            input: BufReader::new(input),
-            output: BufWriter::new(output),
-        }
+    // Fails only where there is no memory for the two buffers; nothing is read or written then.
+    pub fn new(heap: Global, input: R, output: W) -> io::Result<Wire<R, W>>
+        ensures { IfErr result (λ e. error_kind e ≡ ErrorKind.OutOfMemory) }
+    {
+        Ok(Wire {
+            input: BufReader::new(heap, input)?,
+            output: BufWriter::new(heap, output)?,
+        })
     }
 
     pub fn out(&mut self) -> &mut BufWriter<W> {

@@ -1,12 +1,12 @@
 -- Memories prepared for the rows of a chain. Assumes nothing.
-use Rattle.std.proofs.Common.{◌≡◌, ℕ, ◌+◌, ◌*◌, ◌<◌, ◌≤◌, Bool, true, false, cond, List, [], length, get_or, sym, refl, ap, ◌∙◌, subst, ap₂, inl, inr, zero-add, arith}
+use Rattle.std.proofs.Common.{◌≡◌, ℕ, ◌+◌, ◌<◌, Bool, true, false, cond, List, length, get_or, sym, refl, ap, ◌∙◌, subst, ap₂, inl, inr, zero-add, arith}
 use Rattle.std.proofs.lemmas.Bool.{cases_eq, cases_Bool}
 use Rattle.mitl.specs.declared.Row.{Row}
 use Rattle.mitl.specs.Memory.{Meaning, clean}
-use Rattle.mitl.specs.Outlook.{row_from, row_to, looked, from, to}
-use Rattle.mitl.specs.Rows.{row_at, is_timed, timed_before, timed_rows}
+use Rattle.mitl.specs.Outlook.{row_from, row_to}
+use Rattle.mitl.specs.Rows.{row_at, is_timed, timed_before}
 use Rattle.engine.proofs.Plans.{timed_past, timed_next}
-use Rattle.memories.specs.Parts.{Admitted, Readied, PreparedAt}
+use Rattle.memories.specs.Parts.{Readied, PreparedAt}
 
 module _ {X : Type 0} (meaning : X → Meaning) (admitted : ℕ → ℕ → Bool) (rows : List Row) (ms : List X) where
   pub readied_none : Readied meaning admitted rows 0 ms ms

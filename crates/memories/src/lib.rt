@@ -1,5 +1,8 @@
 //! The memories of a watch: from the list's start a part for each car in turn, and within it a memory for each timed
 //! row along the chain. One car's part is lent on to be written; all else stays.
+
+#![tactic(auto)]
+
 ghost use Rattle.std.specs.Prelude.{◌≡◌, ℕ, ◌+◌, ◌*◌, ◌<◌, ◌≤◌, min, Bool, true, false, List, [], length, if◌then◌else◌};
 ghost use Rattle.mitl.specs.Memory.{counted};
 ghost use Rattle.mitl.specs.Outlook.{row_from, row_to};
@@ -64,7 +67,7 @@ fn span(at: usize, timed: usize, len: usize) -> Option<(usize, usize)>
 
 // The memory at this place is prepared for a window.
 fn prepare_at<M: WindowMemory>(part: &mut [M], at: usize, a: u32, b: u32)
-    ensures { PreparedAt meaning M.Admission.admitted at a b part.old part.new }
+    ensures { PreparedAt M.meaning M.admitted at a b part.old part.new }
 {
     if at < part.len() {
         let mut m = part[at];
@@ -75,7 +78,7 @@ fn prepare_at<M: WindowMemory>(part: &mut [M], at: usize, a: u32, b: u32)
 
 // The memory at this place is prepared for a row, if it is timed.
 fn prepare_row<M: WindowMemory>(row: Row, part: &mut [M], at: usize)
-    ensures timed { is_timed row ≡ true → PreparedAt meaning M.Admission.admitted at (row_from row) (row_to row) part.old part.new }
+    ensures timed { is_timed row ≡ true → PreparedAt M.meaning M.admitted at (row_from row) (row_to row) part.old part.new }
     ensures other { is_timed row ≡ false → part.new ≡ part.old }
 {
     if let Some((a, b)) = window_of(row) {
@@ -85,7 +88,7 @@ fn prepare_row<M: WindowMemory>(row: Row, part: &mut [M], at: usize)
 
 // A memory for each timed row.
 fn prepare_part<M: WindowMemory>(plan: &Plan, part: &mut [M])
-    ensures { Readied meaning M.Admission.admitted (rows_of plan.now) plan.now.count part.old part.new }
+    ensures { Readied M.meaning M.admitted (rows_of plan.now) plan.now.count part.old part.new }
 {
     let mut at = 0;
     for k in 0..plan.count {
@@ -104,7 +107,7 @@ pub fn timed(plan: &Plan) -> usize
 
 // The part of the car at this place is prepared.
 fn prepare_car<M: WindowMemory>(plan: &Plan, at: usize, memories: &mut [M])
-    ensures { CarPrepared meaning M.Admission.admitted (rows_of plan.now) at memories.old memories.new }
+    ensures { CarPrepared M.meaning M.admitted (rows_of plan.now) at memories.old memories.new }
 {
     if let Some((from, to)) = span(at, timed(plan), memories.len()) {
         prepare_part(plan, &mut memories[from..to]);
@@ -113,7 +116,7 @@ fn prepare_car<M: WindowMemory>(plan: &Plan, at: usize, memories: &mut [M])
 
 // The part of the car at this place is cleared.
 pub fn clear_car<M: WindowMemory>(plan: &Plan, at: usize, memories: &mut [M])
-    ensures { CarCleared meaning (rows_of plan.now) at memories.old memories.new }
+    ensures { CarCleared M.meaning (rows_of plan.now) at memories.old memories.new }
 {
     if let Some((from, to)) = span(at, timed(plan), memories.len()) {
         clear(plan, &mut memories[from..to]);
@@ -130,7 +133,7 @@ pub fn feed_car<M: WindowMemory>(
     memories: &mut [M],
     notes: &mut [Note],
 ) -> Fed
-    ensures { CarFed meaning (rows_of plan.now) at car word ticks memories.old notes.old memories.new notes.new result }
+    ensures { CarFed M.meaning (rows_of plan.now) at car word ticks memories.old notes.old memories.new notes.new result }
 {
     match span(at, timed(plan), memories.len()) {
         Some((from, to)) => feed(plan, car, word, ticks, &mut memories[from..to], notes),
@@ -140,7 +143,7 @@ pub fn feed_car<M: WindowMemory>(
 
 // The parts of the first cars are prepared.
 fn prepare_first<M: WindowMemory>(plan: &Plan, cars: usize, memories: &mut [M])
-    ensures { Prepared meaning M.Admission.admitted (rows_of plan.now) cars memories.old memories.new }
+    ensures { Prepared M.meaning M.admitted (rows_of plan.now) cars memories.old memories.new }
 {
     for i in 0..cars {
         prepare_car(plan, i, memories);
@@ -149,14 +152,14 @@ fn prepare_first<M: WindowMemory>(plan: &Plan, cars: usize, memories: &mut [M])
 
 // From the list's start a memory is prepared for each car in turn and, within it, for each timed row along the chain.
 pub fn prepare_cars<M: WindowMemory>(plan: &Plan, cars: usize, memories: &mut [M])
-    ensures { Prepared meaning M.Admission.admitted (rows_of plan.now) cars memories.old memories.new }
+    ensures { Prepared M.meaning M.admitted (rows_of plan.now) cars memories.old memories.new }
 {
     prepare_first(plan, cars, memories);
 }
 
 // What a memory shows: mark d, and how many stretches of yes there are.
 pub fn show<M: WindowMemory>(memory: M, d: u32) -> Shown
-    ensures { (result.mark ≡ (meaning memory).mark d) × (result.count ≡ counted (meaning memory)) }
+    ensures { (result.mark ≡ (M.meaning memory).mark d) × (result.count ≡ counted (M.meaning memory)) }
 {
     Shown {
         mark: memory.look(d),

@@ -1,4 +1,7 @@
 //! How long each function of the window memories takes. With the word `run` it measures; else it says how to start it.
+
+#![tactic(auto)]
+
 use bit_marks::BitMarks;
 use clock_pairs::ClockPairs;
 use std::time::Instant;

@@ -1,5 +1,7 @@
 //! The kinds of window memory on worked examples: each kind has one test, which drives what all kinds share.
 
+#![tactic(auto)]
+
 #[cfg(test)]
 mod tests {
     use bit_marks::BitMarks;

@@ -1,5 +1,8 @@
 //! Prints what came down the line: standard input is taken as records of twelve bytes, to its end, and each is
 //! printed in words or refused by number and place. A last piece under twelve bytes is a refused record too.
+
+#![tactic(auto)]
+
 ghost use Rattle.std.specs.Prelude.{IfOk};
 ghost use Rattle.recordlist.specs.Counted.{Counted};
 

@@ -2,6 +2,9 @@
 //!
 //! Each damaged line or record is told of first. Then comes a table with a row for each car, in the order of the
 //! cars' numbers: the car, all its ticks, the share of each rule in per mille, and the busiest rule with its share.
+
+#![tactic(auto)]
+
 mod table;
 
 use record::Note;

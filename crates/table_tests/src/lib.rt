@@ -1,4 +1,7 @@
 //! Tables, byte by byte: each refusal at each field, each boundary, chains in odd orders, rows off the chain.
+
+#![tactic(auto)]
+
 ghost use Rattle.std.specs.Prelude.{nat_le};
 
 use mitl::Row;

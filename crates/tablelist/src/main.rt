@@ -1,4 +1,7 @@
 //! Prints the rule table on standard input in words, row by row along its chain, or else its refusal.
+
+#![tactic(auto)]
+
 ghost use Rattle.std.specs.Prelude.{◌≡◌, ◌<◌, Some};
 ghost use Rattle.mitl.specs.Rows.{Earlier};
 ghost use Rattle.tablelist.specs.Numbered.{numbered, line_of};

@@ -1,13 +1,12 @@
 -- What a watch that keeps a book shows. Assumes nothing.
-use Rattle.std.proofs.Common.{◌≡◌, ℕ, suc, ◌+◌, ◌-◌, ◌*◌, ◌<◌, ◌≤◌, min, Bool, true, false, cond, not, ◌⊎◌, List, [], ◌∷◌, length, get_or, take, drop, is_some, Some, None, Option, sym, refl, ap, ◌∙◌, subst, ap₂, inl, inr, mul-le-mul_right, arith}
-use Rattle.std.proofs.lemmas.List.FromFn.{length-map-range_with_len}
+use Rattle.std.proofs.Common.{◌≡◌, ℕ, ◌+◌, ◌-◌, ◌*◌, ◌<◌, ◌≤◌, min, true, cond, not, ◌⊎◌, List, length, get_or, drop, is_some, Some, None, Option, sym, refl, ap, ◌∙◌, subst, ap₂, inl, inr, mul-le-mul_right, arith}
 use Rattle.std.proofs.lemmas.List.{get_or-take, get_or-drop}
 use Rattle.std.proofs.lemmas.Bool.{cond-true, cond-false, not_from_true, not_from_false}
 use Rattle.mitl.specs.declared.Row.{Row}
 use Rattle.mitl.specs.Blocks.{row_looked}
 use Rattle.mitl.specs.Memory.{Meaning, counted}
 use Rattle.mitl.specs.Rows.{row_at, is_timed, timed_before, timed_rows}
-use Rattle.refusal.specs.Faults.{refusal, fault, first_fault}
+use Rattle.refusal.specs.Faults.{refusal, first_fault}
 use Rattle.record.specs.declared.Car.{Car}
 use Rattle.plan.specs.Rows.{rows_of, numbers_of}
 use Rattle.plan.specs.Places.{place_among_lem}
@@ -20,9 +19,9 @@ use Rattle.cars.proofs.Places.{place_listed, place_in}
 use Rattle.memories.specs.declared.Shown.{Shown}
 use Rattle.memories.specs.Parts.{part_at, Indexed}
 use Rattle.book.specs.Book.{Book}
-use Rattle.book.specs.Calls.{Answer, shown, query_faults, timed_place, timed_in, if_timed, no_place, shown_at}
+use Rattle.book.specs.Calls.{shown, query_faults, timed_place, if_timed, no_place, shown_at}
 use Rattle.book.proofs.After.{timed_on}
-use Rattle.watch.specs.Keeping.{Held, held, Keeps}
+use Rattle.watch.specs.Keeping.{Held, Keeps}
 use Rattle.watch.specs.Replies.{timed_only}
 
 module _ {M : Type 0} (meaning : M → Meaning) (room : ℕ) (w : Held M) (k : Book) (keeps : Keeps meaning room w k) (c : Car) where

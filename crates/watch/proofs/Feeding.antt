@@ -1,11 +1,11 @@
 -- A record is taken by a watch that keeps a book. Assumes nothing.
-use Rattle.std.proofs.Common.{◌≡◌, ℕ, ◌+◌, ◌*◌, ◌<◌, ◌≤◌, min, Bool, true, false, cond, not, ◌&&◌, ◌||◌, eqb, ◌⊎◌, List, [], ◌∷◌, ◌++◌, map, length, get_or, take, drop, replicate, is_some, is_ok, Some, None, Ok, Err, Option, Result, sym, refl, ap, ◌∙◌, subst, ap₂, inl, inr, arith}
+use Rattle.std.proofs.Common.{◌≡◌, ℕ, ◌<◌, min, Bool, true, false, cond, not, ◌&&◌, ◌||◌, eqb, ◌⊎◌, List, [], ◌∷◌, ◌++◌, map, length, get_or, take, drop, replicate, is_some, Some, None, Ok, Err, Option, Result, sym, refl, ap, ◌∙◌, subst, ap₂, inl, inr, arith}
 use mathlib.Core.Path.{fun_ext}
 use lib.ListN.{length-map}
 use lib.Seq.{take-append_seam}
 use Rattle.std.specs.List.{range_with_len}
 use Rattle.std.specs.Result.{result_err}
-use Rattle.std.proofs.lemmas.Bool.{cases_Bool, cases_eq, cond-true, cond-false, not_from_true, not_from_false, not-false, or_parts, or_cases, eqb-true, eq-eqb, both_ways}
+use Rattle.std.proofs.lemmas.Bool.{cases_Bool, cases_eq, cond-true, cond-false, not_from_false, not-false, or_parts, or_cases, eqb-true, eq-eqb, both_ways}
 use Rattle.mitl.specs.declared.Row.{Row}
 use Rattle.mitl.specs.Memory.{Meaning}
 use Rattle.mitl.specs.Rows.{timed_rows}
@@ -24,11 +24,11 @@ use Rattle.engine.specs.Means.{Means}
 use Rattle.engine.specs.Due.{due, covered}
 use Rattle.engine.specs.Judged.{note}
 use Rattle.cars.specs.declared.CarState.{CarState}
-use Rattle.cars.specs.declared.CarState.TheVariants.{Vacant, Running, Ended}
+use Rattle.cars.specs.declared.CarState.TheVariants.{Running, Ended}
 use Rattle.cars.specs.declared.CarTable.{CarTable}
 use Rattle.cars.specs.declared.FeedFault.{FeedFault}
 use Rattle.cars.specs.Cars.{same_car, no_car, no_slot, listed, place_of, cars_of, state_at}
-use Rattle.cars.specs.Moves.{is_running, moved, MovedAt, record_refusal, Recorded}
+use Rattle.cars.specs.Moves.{is_running, moved, record_refusal, Recorded}
 use Rattle.cars.specs.Refusals.{car_place, of_feed}
 use Rattle.cars.proofs.Places.{place_in, car_at, length_cars}
 use Rattle.memories.specs.Parts.{part_at, OnlyPart, CarCleared, CarFed}
@@ -36,7 +36,6 @@ use Rattle.memories.proofs.Lent.{other_part, same_only}
 use Rattle.book.specs.Book.{Book, with_car, noted, rows_of_book, due_runs, due_notes, restarted, finished, judged}
 use Rattle.book.specs.Calls.{feed_faults, car_faults}
 use Rattle.book.proofs.Spoken.{same_self, same_is}
-use Rattle.watch.specs.declared.inner.Inner.{Inner}
 use Rattle.watch.specs.Keeping.{Held, held, Keeps}
 use Rattle.watch.specs.Replies.{bytes_faults}
 use Rattle.watch.proofs.Asking.{listed_is, in_list, place_is, some_cars, part_means}

@@ -1,13 +1,13 @@
 -- The promise, from the calls' steps. Assumes nothing.
-use Rattle.std.proofs.Common.{◌≡◌, ℕ, suc, ◌<◌, ◌≤◌, Bool, true, false, List, [], ◌∷◌, length, sym, refl, ◌∙◌, subst, arith}
+use Rattle.std.proofs.Common.{◌≡◌, ℕ, ◌<◌, Bool, true, List, [], ◌∷◌, length, refl, subst, arith}
 use Rattle.std.proofs.lemmas.Bool.{false≢true}
 use Rattle.mitl.specs.Memory.{Meaning}
 use Rattle.mitl.specs.Rows.{Chained}
 use Rattle.record.specs.declared.Car.{Car}
 use Rattle.engine.proofs.Plans.{used_chained}
-use Rattle.cars.specs.Cars.{listed, Filled, cars_of}
+use Rattle.cars.specs.Cars.{listed, Filled}
 use Rattle.cars.proofs.Places.{cars_filled}
-use Rattle.book.specs.Book.{Book, empty, rows_of_book}
+use Rattle.book.specs.Book.{Book, rows_of_book}
 use Rattle.book.proofs.After.{after_any_list, kinds_agree}
 use Rattle.watch.specs.declared.inner.Inner.{Inner}
 use Rattle.watch.specs.Keeping.{Held, held, Keeps, Fresh}

@@ -1,24 +1,24 @@
 -- After an accepted Set the watch keeps the new book. Assumes nothing.
-use Rattle.std.proofs.Common.{◌≡◌, ℕ, zero, suc, ◌+◌, ◌*◌, ◌<◌, ◌≤◌, Bool, true, false, cond, not, ◌||◌, ltb, List, [], ◌∷◌, ◌++◌, length, get_or, take, Some, None, Option, sym, refl, ap, ◌∙◌, subst, ap₂, inl, inr, arith}
-use Rattle.std.proofs.lemmas.List.{take_all, get_or-take, length-take-le}
-use Rattle.std.proofs.lemmas.Bool.{cases_lt, cases_Bool, cases_eq, or_left, or_right, or_parts, both_ways, ltb-false}
+use Rattle.std.proofs.Common.{◌≡◌, ℕ, zero, suc, ◌+◌, ◌*◌, ◌<◌, ◌≤◌, Bool, true, false, ltb, List, [], ◌∷◌, ◌++◌, length, get_or, take, None, sym, ap, ◌∙◌, subst, inl, inr, arith}
+use Rattle.std.proofs.lemmas.List.{take_all}
+use Rattle.std.proofs.lemmas.Bool.{cases_lt, or_left, or_right, or_parts, both_ways, ltb-false}
 use Rattle.mitl.specs.Memory.{Meaning}
 use Rattle.mitl.specs.Rows.{timed_rows}
-use Rattle.plan.specs.Rows.{rows_of, numbers_of}
-use Rattle.refusal.specs.Faults.{Fault, fault, first_fault}
-use Rattle.refusal.proofs.Firsts.{none_parts, none_held}
+use Rattle.plan.specs.Rows.{rows_of}
+use Rattle.refusal.specs.Faults.{fault, first_fault}
+use Rattle.refusal.proofs.Firsts.{none_parts}
 use Rattle.refusal.proofs.Held.{none_parts as none_both, off_counted}
 use Rattle.record.specs.declared.Car.{Car}
-use Rattle.table.specs.Chain.{rows_in, numbers_in, table_faults, table_refusal}
+use Rattle.table.specs.Chain.{rows_in, table_faults, table_refusal}
 use Rattle.table.specs.Decoded.{PlanOf}
-use Rattle.cars.specs.Cars.{same_car, no_car, no_slot, listed, wrong_car, position_faults, list_faults, Filled, cars_of, state_at}
+use Rattle.cars.specs.Cars.{same_car, no_car, listed, wrong_car, position_faults, list_faults, Filled, cars_of}
 use Rattle.cars.proofs.Places.{cars_filled}
-use Rattle.memories.specs.Parts.{Prepared, Admitted, part_at}
-use Rattle.book.specs.Book.{Book, started}
+use Rattle.memories.specs.Parts.{Prepared, Admitted}
+use Rattle.book.specs.Book.{started}
 use Rattle.book.specs.Calls.{set_faults}
 use Rattle.book.proofs.Spoken.{same_self}
 use Rattle.watch.specs.declared.inner.Inner.{Inner}
-use Rattle.watch.specs.Keeping.{Held, held, Keeps}
+use Rattle.watch.specs.Keeping.{held, Keeps}
 use Rattle.watch.proofs.Setting.{all_admitted, few_cars}
 
 -- a car that stands among the first n is listed there

@@ -1,11 +1,10 @@
 -- A call's step, refused or not. Assumes nothing.
-use Rattle.std.proofs.Common.{◌≡◌, ℕ, Bool, List, [], length, Some, None, Option, sym, refl, ap, ◌∙◌, subst}
+use Rattle.std.proofs.Common.{◌≡◌, ℕ, Bool, List, [], Some, None, Option, sym, refl, subst}
 use Rattle.refusal.specs.declared.Refusal.{Refusal}
 use Rattle.refusal.specs.Faults.{first_fault}
-use Rattle.record.specs.declared.Car.{Car}
 use Rattle.record.specs.declared.Note.{Note}
 use Rattle.book.specs.Book.{Book}
-use Rattle.book.specs.Calls.{Call, set, feed, query, Answer, refused, Event, set_faults, feed_faults, query_faults, faults_of_call, call_refusal, accepted_answer, accepted_notes, Answered, Right, after_call, after_unless, next}
+use Rattle.book.specs.Calls.{Call, Answer, refused, Event, faults_of_call, call_refusal, accepted_answer, accepted_notes, Answered, Right, after_call, after_unless, next}
 
 abbrev pub made : Call → List Note → Answer → Event
 made x notes answer = record { call = x; notes = notes; answer = answer }

@@ -1,6 +1,6 @@
 -- The step of a record, letter by letter. Assumes nothing.
-use Rattle.std.proofs.Common.{◌≡◌, ℕ, Bool, true, false, cond, ◌&&◌, eqb, List, [], map, length, take, Some, None, Ok, Err, sym, refl, ap, ◌∙◌, subst, ap₂, inl, inr, arith}
-use Rattle.std.proofs.lemmas.Bool.{cond-true, cond-false, eq-eqb, ne_eqb}
+use Rattle.std.proofs.Common.{◌≡◌, ℕ, Bool, false, cond, ◌&&◌, eqb, List, [], map, length, take, Some, None, Ok, Err, sym, ap, ◌∙◌, subst, ap₂}
+use Rattle.std.proofs.lemmas.Bool.{cond-true, cond-false, ne_eqb}
 use Rattle.mitl.specs.Memory.{Meaning}
 use Rattle.mitl.specs.Runs.{Run, ticks}
 use Rattle.refusal.specs.Faults.{refusal, first_fault}
@@ -15,7 +15,7 @@ use Rattle.cars.specs.declared.FeedFault.{FeedFault}
 use Rattle.cars.specs.Moves.{Recorded}
 use Rattle.cars.specs.Refusals.{of_feed}
 use Rattle.memories.specs.Parts.{CarCleared, CarFed}
-use Rattle.book.specs.Book.{Book, due_runs, due_notes, restarted, finished, judged, entered}
+use Rattle.book.specs.Book.{Book, due_runs, due_notes, judged, entered}
 use Rattle.book.specs.Calls.{Answer, feed, fed, feed_faults, car_faults, Right, next}
 use Rattle.watch.specs.Keeping.{Held, held, Keeps}
 use Rattle.watch.specs.Replies.{bytes_faults}

@@ -1,5 +1,5 @@
 -- The calls as they were made, by what they replied. Assumes nothing.
-use Rattle.std.specs.Prelude.{ℕ, Bool, List, [], length, take, Ok, Err, Result}
+use Rattle.std.specs.Prelude.{ℕ, List, [], length, take, Ok, Err, Result}
 use Rattle.record.specs.declared.Car.{Car}
 use Rattle.record.specs.declared.Note.{Note}
 use Rattle.plan.specs.declared.Counts.{Counts}

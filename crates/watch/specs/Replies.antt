@@ -1,5 +1,5 @@
 -- What the inner functions of the watch reply. Assumes nothing.
-use Rattle.std.specs.Prelude.{◌≡◌, ℕ, ◌*◌, Bool, true, false, cond, not, ◌||◌, List, [], ◌∷◌, ◌++◌, length, Some, None, Ok, Err, Option, Result, ◌==◌, slice_index}
+use Rattle.std.specs.Prelude.{◌≡◌, ℕ, Bool, cond, not, ◌||◌, List, ◌∷◌, length, Some, None, Ok, Err, Option, Result, ◌==◌, slice_index}
 use Rattle.mitl.specs.Rows.{row_at, is_timed}
 use Rattle.refusal.specs.Faults.{Fault, fault, first_fault}
 use Rattle.record.specs.declared.Car.{Car}

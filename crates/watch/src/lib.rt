@@ -1,4 +1,7 @@
 //! The watch: Set, Feed and Query over a lent list of window memories.
+
+#![tactic(auto)]
+
 ghost use Rattle.std.specs.Prelude.{◌≡◌, ℕ, ◌*◌, ◌<◌, ◌≤◌, Bool, true, false, List, [], ◌∷◌, length, drop, is_ok, Some};
 ghost use Rattle.plan.specs.Rows.{rows_of};
 ghost use Rattle.mitl.specs.Rows.{timed_rows};
@@ -78,8 +81,8 @@ impl<'a, M: WindowMemory> Watch<'a, M> {
     // A watch over a list of memories, new or used: no table and no cars stand. What is promised after any list of
     // calls on it stands here.
     pub fn new(memories: &'a mut [M]) -> Watch<'a, M>
-        ensures fresh { Fresh meaning (held result.inner result.memories.now) }
-        ensures promise { Promise meaning M.Admission.admitted }
+        ensures fresh { Fresh M.meaning (held result.inner result.memories.now) }
+        ensures promise { Promise M.meaning M.admitted }
         ensures same { result.memories.now ≡ memories.old }
         ensures named { result.memories.ghost_name ≡ memories.entry.ghost_name }
     {
@@ -89,7 +92,7 @@ impl<'a, M: WindowMemory> Watch<'a, M> {
     // Set: a table and a car list stand from now on, all cars vacant; the reply is the chain's count of rows, R rows and
     // timed rows.
     pub fn set(&mut self, table: &[u8], cars: &[Car]) -> Result<Counts, SetFault>
-        ensures step { Steps meaning M.Admission.admitted (held self.old.inner self.old.memories.now) (set_made table.now cars.now result) (held self.new.inner self.new.memories.now) }
+        ensures step { Steps M.meaning M.admitted (held self.old.inner self.old.memories.now) (set_made table.now cars.now result) (held self.new.inner self.new.memories.now) }
         ensures refused { is_ok result ≡ false → (self.new.inner ≡ self.old.inner) × (self.new.memories.now ≡ self.old.memories.now) }
         ensures named { self.new.memories.ghost_name ≡ self.old.memories.ghost_name }
     {
@@ -99,7 +102,7 @@ impl<'a, M: WindowMemory> Watch<'a, M> {
     // Feed: one record, and places for the notes of its verdicts; the reply is the notes written and the ticks that they
     // cover.
     pub fn feed(&mut self, bytes: &[u8], notes: &mut [Note]) -> Result<Fed, FeedFault>
-        ensures step { Steps meaning M.Admission.admitted (held self.old.inner self.old.memories.now) (feed_made bytes.now notes.new result) (held self.new.inner self.new.memories.now) }
+        ensures step { Steps M.meaning M.admitted (held self.old.inner self.old.memories.now) (feed_made bytes.now notes.new result) (held self.new.inner self.new.memories.now) }
         ensures others { (length notes.new ≡ length notes.old) × (drop (notes_told result) notes.new ≡ drop (notes_told result) notes.old) }
         ensures refused { is_ok result ≡ false → (self.new.inner ≡ self.old.inner) × (self.new.memories.now ≡ self.old.memories.now) }
         ensures named { self.new.memories.ghost_name ≡ self.old.memories.ghost_name }
@@ -109,7 +112,7 @@ impl<'a, M: WindowMemory> Watch<'a, M> {
 
     // Query: mark d of the memory of a car's timed row, and its count; nothing changes.
     pub fn query(&mut self, car: Car, row: u8, d: u32) -> Result<Shown, CarFault>
-        ensures step { Steps meaning M.Admission.admitted (held self.old.inner self.old.memories.now) (query_made car row d result) (held self.new.inner self.new.memories.now) }
+        ensures step { Steps M.meaning M.admitted (held self.old.inner self.old.memories.now) (query_made car row d result) (held self.new.inner self.new.memories.now) }
         ensures same { (self.new.inner ≡ self.old.inner) × (self.new.memories.now ≡ self.old.memories.now) }
         ensures named { self.new.memories.ghost_name ≡ self.old.memories.ghost_name }
     {
@@ -117,8 +120,8 @@ impl<'a, M: WindowMemory> Watch<'a, M> {
     }
 
     fn made(memories: &'a mut [M]) -> Watch<'a, M>
-        ensures fresh { Fresh meaning (held result.inner result.memories.now) }
-        ensures promise { Promise meaning M.Admission.admitted }
+        ensures fresh { Fresh M.meaning (held result.inner result.memories.now) }
+        ensures promise { Promise M.meaning M.admitted }
         ensures same { result.memories.now ≡ memories.old }
         ensures named { result.memories.ghost_name ≡ memories.entry.ghost_name }
     {
@@ -133,7 +136,7 @@ impl<'a, M: WindowMemory> Watch<'a, M> {
 
     // A table and a car list are set, or refused and nothing changes.
     fn put(&mut self, table: &[u8], cars: &[Car]) -> Result<Counts, SetFault>
-        ensures step { Steps meaning M.Admission.admitted (held self.old.inner self.old.memories.now) (set_made table.now cars.now result) (held self.new.inner self.new.memories.now) }
+        ensures step { Steps M.meaning M.admitted (held self.old.inner self.old.memories.now) (set_made table.now cars.now result) (held self.new.inner self.new.memories.now) }
         ensures refused { is_ok result ≡ false → (self.new.inner ≡ self.old.inner) × (self.new.memories.now ≡ self.old.memories.now) }
         ensures named { self.new.memories.ghost_name ≡ self.old.memories.ghost_name }
     {
@@ -150,7 +153,7 @@ impl<'a, M: WindowMemory> Watch<'a, M> {
 
     // What the memory of a car's timed row shows; nothing changes.
     fn ask(&mut self, car: Car, row: u8, d: u32) -> Result<Shown, CarFault>
-        ensures step { Steps meaning M.Admission.admitted (held self.old.inner self.old.memories.now) (query_made car row d result) (held self.new.inner self.new.memories.now) }
+        ensures step { Steps M.meaning M.admitted (held self.old.inner self.old.memories.now) (query_made car row d result) (held self.new.inner self.new.memories.now) }
         ensures same { (self.new.inner ≡ self.old.inner) × (self.new.memories.now ≡ self.old.memories.now) }
         ensures named { self.new.memories.ghost_name ≡ self.old.memories.ghost_name }
     {
@@ -172,7 +175,7 @@ impl<'a, M: WindowMemory> Watch<'a, M> {
 
     // One record is taken, or refused and nothing changes.
     fn take(&mut self, bytes: &[u8], notes: &mut [Note]) -> Result<Fed, FeedFault>
-        ensures step { Steps meaning M.Admission.admitted (held self.old.inner self.old.memories.now) (feed_made bytes.now notes.new result) (held self.new.inner self.new.memories.now) }
+        ensures step { Steps M.meaning M.admitted (held self.old.inner self.old.memories.now) (feed_made bytes.now notes.new result) (held self.new.inner self.new.memories.now) }
         ensures others { (length notes.new ≡ length notes.old) × (drop (notes_told result) notes.new ≡ drop (notes_told result) notes.old) }
         ensures refused { is_ok result ≡ false → (self.new.inner ≡ self.old.inner) × (self.new.memories.now ≡ self.old.memories.now) }
         ensures named { self.new.memories.ghost_name ≡ self.old.memories.ghost_name }
@@ -208,7 +211,7 @@ fn set_and_feed<M: WindowMemory>(
     bytes: &[u8],
     notes: &mut [Note],
 ) -> (Result<Counts, SetFault>, Result<Fed, FeedFault>)
-    ensures run { Runs meaning M.Admission.admitted (held watch.old.inner watch.old.memories.now) (set_made table.now cars.now result.0 ∷ (feed_made bytes.now notes.new result.1 ∷ [])) (held watch.new.inner watch.new.memories.now) }
+    ensures run { Runs M.meaning M.admitted (held watch.old.inner watch.old.memories.now) (set_made table.now cars.now result.0 ∷ (feed_made bytes.now notes.new result.1 ∷ [])) (held watch.new.inner watch.new.memories.now) }
     ensures named { watch.new.memories.ghost_name ≡ watch.old.memories.ghost_name }
 {
     let set = watch.set(table, cars);
@@ -224,7 +227,7 @@ pub fn begin<M: WindowMemory>(
     bytes: &[u8],
     notes: &mut [Note],
 ) -> (Result<Counts, SetFault>, Result<Fed, FeedFault>)
-    ensures run { Runs meaning M.Admission.admitted (held watch.old.inner watch.old.memories.now) (set_made table.now cars.now result.0 ∷ (feed_made bytes.now notes.new result.1 ∷ [])) (held watch.new.inner watch.new.memories.now) }
+    ensures run { Runs M.meaning M.admitted (held watch.old.inner watch.old.memories.now) (set_made table.now cars.now result.0 ∷ (feed_made bytes.now notes.new result.1 ∷ [])) (held watch.new.inner watch.new.memories.now) }
     ensures named { watch.new.memories.ghost_name ≡ watch.old.memories.ghost_name }
 {
     set_and_feed(watch, table, cars, bytes, notes)
@@ -232,7 +235,7 @@ pub fn begin<M: WindowMemory>(
 
 fn agree<M: WindowMemory, N: WindowMemory>(unit: &[u16], desk: &[u16]) -> bool
     ensures value { (result ≡ true → unit.now ≡ desk.now) × (unit.now ≡ desk.now → result ≡ true) }
-    ensures promise { BothEnds M.WindowMemory.meaning M.Admission.admitted N.WindowMemory.meaning N.Admission.admitted }
+    ensures promise { BothEnds M.meaning M.admitted N.meaning N.admitted }
 {
     same_words(unit, desk)
 }
@@ -242,7 +245,7 @@ fn agree<M: WindowMemory, N: WindowMemory>(unit: &[u16], desk: &[u16]) -> bool
 // together tick by tick, agree so far.
 pub fn both_ends<M: WindowMemory, N: WindowMemory>(unit: &[u16], desk: &[u16]) -> bool
     ensures value { (result ≡ true → unit.now ≡ desk.now) × (unit.now ≡ desk.now → result ≡ true) }
-    ensures promise { BothEnds M.WindowMemory.meaning M.Admission.admitted N.WindowMemory.meaning N.Admission.admitted }
+    ensures promise { BothEnds M.meaning M.admitted N.meaning N.admitted }
 {
     agree::<M, N>(unit, desk)
 }

@@ -1,4 +1,4 @@
-use Rattle.std.proofs.Common.{◌≡◌, ◌+◌, ◌*◌, ◌<◌, ◌≤◌, length, Some, None, sym, refl, ap, ◌∙◌, subst, arith}
+use Rattle.std.proofs.Common.{◌+◌, ◌*◌, ◌<◌, length, Some, subst}
 use Rattle.mitl.specs.Rows.{timed_rows}
 use Rattle.plan.specs.Rows.{rows_of}
 use Rattle.memories.specs.Parts.{Spanned}
@@ -15,11 +15,11 @@ returns-in-Some g c =
     let back = lent_back (timed_rows rows) c.args.at from to ms c.clear.new.part s.0 s.1 s.2 c.clear.auto.part in
     cleared_back g.M.WindowMemory.meaning rows c.args.at from to ms c.clear.new.part back c.clear.ensures.means
 
-pub returns-in-default : goal.returns-in-default
-returns-in-default g c =
+pub returns-in_default : goal.returns-in_default
+returns-in_default g c =
     let rows = rows_of c.args.plan.now in
     let ms = c.args.memories.now in
-    let short : length ms < c.args.at * timed_rows rows + timed_rows rows = subst (λ n. length ms < c.args.at * n + n) c.timed.ensures c.in-default.ensures in
+    let short : length ms < c.args.at * timed_rows rows + timed_rows rows = subst (λ n. length ms < c.args.at * n + n) c.timed.ensures c.in_default.ensures in
     record {
       only = same_only (timed_rows rows) c.args.at ms;
       means = λ h means. absurd (no_part g.M.WindowMemory.meaning rows c.args.at ms h short means);

@@ -1,6 +1,4 @@
-use Rattle.std.proofs.Common.{◌≡◌, subst, arith}
 use Rattle.plan.specs.Rows.{rows_of}
-use Rattle.memories.specs.Parts.{Prepared}
 use Rattle.memories.proofs.Lent.{prepared_none, prepared_more}
 use Rattle.memories.proofs.prepare_first.Goals as goal
 
@@ -9,4 +7,4 @@ loop-i-init g c = prepared_none g.M.WindowMemory.meaning g.M.Admission.admitted 
 
 pub loop-i-preserved : goal.loop-i-preserved
 loop-i-preserved g c =
-    prepared_more g.M.WindowMemory.meaning g.M.Admission.admitted (rows_of c.args.plan.now) c.args.memories.now c.loop-i.i c.loop-i.memories c.prepare-car.new.memories c.loop-i.invariant c.prepare-car.ensures
+    prepared_more g.M.WindowMemory.meaning g.M.Admission.admitted (rows_of c.args.plan.now) c.args.memories.now c.loop-i.i c.loop-i.memories c.prepare_car.new.memories c.loop-i.invariant c.prepare_car.ensures

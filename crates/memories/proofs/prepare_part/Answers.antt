@@ -1,5 +1,5 @@
-use Rattle.std.proofs.Common.{◌≡◌, sym, refl, ap, ◌∙◌, subst, arith}
-use Rattle.mitl.specs.Rows.{row_at, timed_before}
+use Rattle.std.proofs.Common.{◌≡◌, refl, subst, arith}
+use Rattle.mitl.specs.Rows.{row_at}
 use Rattle.plan.specs.Rows.{rows_of}
 use Rattle.engine.proofs.Plans.{used_row, timed_most, timed_step}
 use Rattle.memories.specs.Parts.{Readied}
@@ -21,8 +21,8 @@ loop-k-preserved g c =
     let row = row_at p.rows k in
     let is = used_row p.rows p.count p.few p.each k c.loop-k-test.true in (
       timed_step (rows_of p) k row c.loop-k.at c.past-at.result is c.loop-k.invariant.0 c.past-at.ensures,
-      readied_row g.M.WindowMemory.meaning g.M.Admission.admitted (rows_of p) c.args.part.now k c.loop-k.at row c.loop-k.part c.prepare-row.new.part is c.loop-k.invariant.0
-          c.prepare-row.ensures.timed c.prepare-row.ensures.other c.loop-k.invariant.1,
+      readied_row g.M.WindowMemory.meaning g.M.Admission.admitted (rows_of p) c.args.part.now k c.loop-k.at row c.loop-k.part c.prepare_row.new.part is c.loop-k.invariant.0
+          c.prepare_row.ensures.timed c.prepare_row.ensures.other c.loop-k.invariant.1,
     )
 
 pub returns : goal.returns

@@ -8,4 +8,4 @@ pub returns : goal.returns
 returns c =
     let p = c.args.plan.now in
     let all : min 64 p.count ≡ p.count = omega (arith, p.few) in
-    c.timed-before.ensures ∙ ap (timed_before (rows_of p)) all ∙ timed_all (rows_of p) p.count (used_most p.rows p.count p.few p.each)
+    c.timed_before.ensures ∙ ap (timed_before (rows_of p)) all ∙ timed_all (rows_of p) p.count (used_most p.rows p.count p.few p.each)

@@ -1,5 +1,5 @@
-use Rattle.std.proofs.Common.{◌≡◌, ap, ◌∙◌, arith}
-use Rattle.mitl.specs.Rows.{row_at, timed_before}
+use Rattle.std.proofs.Common.{arith}
+use Rattle.mitl.specs.Rows.{row_at}
 use Rattle.plan.specs.Rows.{rows_of}
 use Rattle.engine.proofs.Plans.{used_row, timed_most, timed_step}
 use Rattle.memories.proofs.timed_before.Goals as goal

@@ -1,4 +1,4 @@
-use Rattle.std.proofs.Common.{◌≡◌, ◌*◌, ◌<◌, ◌≤◌, length, sym, ap, ◌∙◌, subst, arith, w64}
+use Rattle.std.proofs.Common.{◌≡◌, ◌*◌, ◌<◌, ◌≤◌, length, ap, ◌∙◌, subst, arith, w64}
 use mir.Facts.{Fits-of_lt}
 use Rattle.std.proofs.lemmas.Result.{err_from_is_err_and}
 use Rattle.mitl.specs.Rows.{timed_rows}
@@ -10,32 +10,32 @@ use Rattle.cars.specs.Refusals.{of_list}
 use Rattle.watch.proofs.Setting.{table_first, list_first, room_first, none_first, few_memories}
 use Rattle.watch.proofs.load.Goals as goal
 
-pub returns-in-err-plan : goal.returns-in-err-plan
-returns-in-err-plan g c =
-    let p = err_from_is_err_and c.from-residual.result c.from-residual.ensures.1 in
-    rw (p.1, p.2) (table_first g.A.Admission.admitted c.args.room c.args.table.now c.args.cars.now (of_table c.in-err-plan.field-0.0) c.in-err-plan.ensures)
+pub returns-in_err-plan : goal.returns-in_err-plan
+returns-in_err-plan g c =
+    let p = err_from_is_err_and c.from_residual.result c.from_residual.ensures.1 in
+    rw (p.1, p.2) (table_first g.A.Admission.admitted c.args.room c.args.table.now c.args.cars.now (of_table c.in_err-plan.field-0.0) c.in_err-plan.ensures)
 
-pub returns-in-err-list : goal.returns-in-err-list
-returns-in-err-list g c =
-    let p = err_from_is_err_and c.from-residual-in-err-list.result c.from-residual-in-err-list.ensures.1 in
-    rw (p.1, p.2) (list_first g.A.Admission.admitted c.args.room c.args.table.now c.args.cars.now c.in-ok-plan.ensures.0 (of_list c.in-err-list.field-0.0) c.in-err-list.ensures)
+pub returns-in_err-list : goal.returns-in_err-list
+returns-in_err-list g c =
+    let p = err_from_is_err_and c.from_residual-in_err-list.result c.from_residual-in_err-list.ensures.1 in
+    rw (p.1, p.2) (list_first g.A.Admission.admitted c.args.room c.args.table.now c.args.cars.now c.in_ok-plan.ensures.0 (of_list c.in_err-list.field-0.0) c.in_err-list.ensures)
 
-pub overflow-mul-cars : goal.overflow-mul-cars
-overflow-mul-cars g c =
-    let timed : c.counts.result.timed ≡ timed_rows (rows_of c.in-ok-plan.plan) = ap (λ (n : Counts). n.timed) c.counts.ensures in
-    Fits-of_lt {w = w64} (rw timed (omega (arith, few_memories c.args.cars.now c.in-ok-plan.plan c.in-ok-list.ensures.0)))
+pub overflow_mul-cars : goal.overflow_mul-cars
+overflow_mul-cars g c =
+    let timed : c.counts.result.timed ≡ timed_rows (rows_of c.in_ok-plan.plan) = ap (λ (n : Counts). n.timed) c.counts.ensures in
+    Fits-of_lt {w = w64} (rw timed (omega (arith, few_memories c.args.cars.now c.in_ok-plan.plan c.in_ok-list.ensures.0)))
 
 pub returns-then-room-cars : goal.returns-then-room-cars
 returns-then-room-cars g c =
-    let timed : c.counts.result.timed ≡ timed_rows (rows_in c.args.table.now) = ap (λ (n : Counts). n.timed) c.counts.ensures ∙ ap timed_rows c.in-ok-plan.ensures.1.rows in
-    room_first g.A.Admission.admitted c.args.room c.args.table.now c.args.cars.now c.in-ok-plan.ensures.0 c.in-ok-list.ensures.0
+    let timed : c.counts.result.timed ≡ timed_rows (rows_in c.args.table.now) = ap (λ (n : Counts). n.timed) c.counts.ensures ∙ ap timed_rows c.in_ok-plan.ensures.1.rows in
+    room_first g.A.Admission.admitted c.args.room c.args.table.now c.args.cars.now c.in_ok-plan.ensures.0 c.in_ok-list.ensures.0
     (subst (λ n. c.args.room < length c.args.cars.now * n) timed c.if-room-cars.true)
 
 pub returns : goal.returns
 returns g c =
-    let timed : c.counts.result.timed ≡ timed_rows (rows_in c.args.table.now) = ap (λ (n : Counts). n.timed) c.counts.ensures ∙ ap timed_rows c.in-ok-plan.ensures.1.rows in (
-      none_first g.A.Admission.admitted c.args.room c.args.table.now c.args.cars.now c.in-ok-plan.ensures.0 c.in-ok-list.ensures.0
+    let timed : c.counts.result.timed ≡ timed_rows (rows_in c.args.table.now) = ap (λ (n : Counts). n.timed) c.counts.ensures ∙ ap timed_rows c.in_ok-plan.ensures.1.rows in (
+      none_first g.A.Admission.admitted c.args.room c.args.table.now c.args.cars.now c.in_ok-plan.ensures.0 c.in_ok-list.ensures.0
           (subst (λ n. length c.args.cars.now * n ≤ c.args.room) timed c.if-room-cars.false),
-      c.in-ok-plan.ensures.1,
-      c.in-ok-list.ensures.1,
+      c.in_ok-plan.ensures.1,
+      c.in_ok-list.ensures.1,
     )

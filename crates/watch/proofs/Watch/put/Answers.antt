@@ -1,8 +1,7 @@
-use Rattle.std.proofs.Common.{◌≡◌, [], length, Some, None, sym, refl, ap, ◌∙◌, subst}
+use Rattle.std.proofs.Common.{◌≡◌, [], Some, None, refl, ap, ◌∙◌, subst}
 use Rattle.std.proofs.lemmas.Bool.{true≢false}
 use Rattle.refusal.specs.Faults.{first_fault}
 use Rattle.plan.specs.Totals.{counts_of}
-use Rattle.table.specs.Chain.{rows_in}
 use Rattle.book.specs.Calls.{set, planned, set_faults}
 use Rattle.watch.specs.Keeping.{held, Keeps}
 use Rattle.watch.specs.Refusals.{of_set}
@@ -17,7 +16,7 @@ returns-in-Ok g c =
     let t = c.args.table.now in
     let cs = c.args.cars.now in
     let ms = c.args.self.now.memories.now in
-    let ms' = c.prepare-cars.new.memories in
+    let ms' = c.prepare_cars.new.memories in
     let inner = c.in-Ok.inner in
     let loaded = c.in-Ok.ensures in
     record {
@@ -25,7 +24,7 @@ returns-in-Ok g c =
           let none = subst (λ n. first_fault (set_faults admitted n t cs) ≡ None) keeps.size loaded.0 in
           accepted_step admitted room (Keeps o room) k (set t cs) (held inner ms') [] (planned c.counts-counts.result) none refl
           (ap planned (c.counts-counts.ensures ∙ ap counts_of loaded.1.rows))
-          (set_kept o admitted room t cs inner ms ms' keeps.size none loaded.1 loaded.2 c.prepare-cars.ensures);
+          (set_kept o admitted room t cs inner ms ms' keeps.size none loaded.1 loaded.2 c.prepare_cars.ensures);
       refused = λ e. absurd (true≢false e);
       named = refl;
     }

@@ -1,10 +1,10 @@
-use Rattle.std.proofs.Common.{◌≡◌, ℕ, Bool, true, false, cond, ◌&&◌, eqb, List, [], length, take, Some, None, sym, refl, ap, ◌∙◌, subst, ap₂, inl, inr, arith}
+use Rattle.std.proofs.Common.{◌≡◌, ℕ, [], length, sym, refl, ap, ◌∙◌, subst, inl, inr}
 use Rattle.std.proofs.lemmas.Bool.{true≢false}
-use Rattle.refusal.specs.Faults.{refusal, first_fault}
+use Rattle.refusal.specs.Faults.{refusal}
 use Rattle.record.specs.declared.Record.{Record}
-use Rattle.record.specs.Layout.{fields_at, is_I}
+use Rattle.record.specs.Layout.{is_I}
 use Rattle.cars.specs.Refusals.{of_feed}
-use Rattle.book.specs.Calls.{feed, fed, feed_faults, car_faults}
+use Rattle.book.specs.Calls.{feed}
 use Rattle.watch.specs.Keeping.{held, Keeps}
 use Rattle.watch.proofs.Feeding.{Lettered, bytes_first, lettered}
 use Rattle.watch.proofs.Taking.{car_turned_down, restart_step, end_step, place_refused, inputs_step}
@@ -63,7 +63,7 @@ returns-then-record-eq82 g c =
     let read = c.in-Ok.ensures in
     record {
       step = λ room k keeps. restart_step o admitted room w k keeps bytes (length ns) read.0 r read.1 c.record.new.self c.in-Ok-record.at c.in-Ok-record.ensures
-          c.clear-car.new.memories c.if-record-eq82.true c.clear-car.ensures;
+          c.clear_car.new.memories c.if-record-eq82.true c.clear_car.ensures;
       others = (refl, refl);
       refused = λ e. absurd (true≢false e);
       named = refl;
@@ -115,13 +115,13 @@ returns g c =
     let w = held c.args.self.now.inner c.args.self.now.memories.now in
     let r = c.in-Ok.record in
     let read = c.in-Ok.ensures in
-    let ns' = c.feed-car.new.notes in
-    let size : length ns ≡ length ns' = sym c.feed-car.ensures.places in
+    let ns' = c.feed_car.new.notes in
+    let size : length ns ≡ length ns' = sym c.feed_car.ensures.places in
     let is = third r.letter (subst (λ (x : Record). Lettered x.letter) (sym read.1) (lettered bytes read.0)) c.if-record-eq82.false c.if-record-eq69.false in
     record {
       step = λ room k keeps. inputs_step o admitted room w k keeps bytes (length ns') read.0 r read.1 c.record.new.self c.in-Ok-record.at c.in-Ok-record.ensures
-          c.feed-car.new.memories ns ns' c.feed-car.result is size (λ e. c.if-notes-eq0.false (size ∙ e)) c.feed-car.ensures;
-      others = (c.feed-car.ensures.places, c.feed-car.ensures.rest);
+          c.feed_car.new.memories ns ns' c.feed_car.result is size (λ e. c.if-notes-eq0.false (size ∙ e)) c.feed_car.ensures;
+      others = (c.feed_car.ensures.places, c.feed_car.ensures.rest);
       refused = λ e. absurd (true≢false e);
       named = refl;
     }

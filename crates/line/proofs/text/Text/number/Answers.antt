@@ -1,5 +1,5 @@
 -- `number` puts the digits of the number, the last one first, and a space. Assumes nothing.
-use Rattle.std.proofs.Common.{◌≡◌, ℕ, ◌+◌, ◌-◌, ◌/◌, ◌%◌, ◌^◌, ◌<◌, List, ◌∷◌, ◌++◌, length, drop, decimal, sym, refl, ap, ◌∙◌, arith, rules}
+use Rattle.std.proofs.Common.{ℕ, ◌+◌, ◌/◌, ◌%◌, ◌^◌, ◌<◌, List, ◌∷◌, ◌++◌, drop, decimal, sym, refl, ap, ◌∙◌, arith, rules}
 use Rattle.line.proofs.Figures.{one_before, twenty, one, last_digit, one_less, next_digit}
 use Rattle.line.proofs.text.Text.number.Goals as goal
 
