@@ -1,15 +1,13 @@
 # make run: the main job on a sample. make test: the gate. make bench: one table of what things cost: carwatch beside the
 # same job in plain Rust, the monitor's calls, the last gate by crate. make play: carwatch against the slow reading, on
-# random inputs. make plant: bugs planted one at a time in a crate, and what refused each.
+# random inputs. make plant: wrong bodies that the contracts of a crate let through.
 .PHONY: run test bench play plant
 
 # the program that does the main job, and its sample
 MAIN = carwatch
 
 run:
-	@rt check $(MAIN) > target.log 2>&1 || { cat target.log; rm -f target.log; exit 1; }
-	@rm -f target.log
-	@target/bin/$(MAIN) < crates/$(MAIN)/stdin
+	@cd crates/$(MAIN) && rt run < stdin 2> ../../run.log || { cat ../../run.log; exit 1; }
 
 test:
 	@bash .ci/run
@@ -17,9 +15,11 @@ test:
 # the programs that measure
 BENCHES = memory_bench engine_bench
 
+# proves and builds these programs
+built = for p in $(1); do (cd crates/$$p && rt run < /dev/null > ../../run.log 2>&1) || { cat run.log; exit 1; }; done
+
 bench:
-	@rt check $(BENCHES) $(MAIN) > target.log 2>&1 || { cat target.log; rm -f target.log; exit 1; }
-	@rm -f target.log
+	@$(call built,$(BENCHES) $(MAIN))
 	@python3 bench/table.py
 
 # how many random inputs, and from which seed
@@ -27,15 +27,12 @@ COUNT = 300
 SEED = 1
 
 play:
-	@rt check $(MAIN) > target.log 2>&1 || { cat target.log; rm -f target.log; exit 1; }
-	@rm -f target.log
+	@$(call built,$(MAIN))
 	@python3 tools/play.py $(COUNT) $(SEED)
 
-# the crate to plant bugs in, and how many in a function at most
+# the crate to plant bugs in, and how many at the most
 CRATE = share
-MOST = 8
+MOST = 60
 
 plant:
-	@rt check $(CRATE) > target.log 2>&1 || { cat target.log; rm -f target.log; exit 1; }
-	@rm -f target.log
-	@python3 tools/plant.py --most $(MOST) $(CRATE)
+	@cd crates/$(CRATE) && rt plant --max $(MOST)
