@@ -1,6 +1,6 @@
 -- Worked cases, settled by one proof over their list. Assumes nothing.
 use Rattle.std.specs.Prelude.{◌≡◌, ℕ, zero, suc, ◌-◌, Bool, true, false, cond, List, [], ◌∷◌, ◌++◌, map, length, replicate}
-use Rattle.std.specs.List.{range_with_len, AllByRecursion as All}
+use Rattle.std.specs.List.{range_with_len, AllByRecursion}
 use Rattle.mitl.specs.declared.Row.{Row}
 use Rattle.mitl.specs.declared.Row.TheVariants.{Input, Once, Always, Since}
 use Rattle.mitl.specs.Formulas.{Formula, parts}
@@ -68,4 +68,4 @@ cases =
     ∷ []
 
 abbrev pub CasesRight : Type 0
-CasesRight = All Right cases
+CasesRight = AllByRecursion Right cases

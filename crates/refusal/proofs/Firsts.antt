@@ -1,12 +1,12 @@
 -- The first fault of a list of faults, and of lists that are joined. Assumes nothing.
 use Rattle.std.proofs.Common.{◌≡◌, ℕ, zero, suc, ◌+◌, ◌<◌, ◌≤◌, false, List, [], ◌∷◌, ◌++◌, Some, None, sym, refl, ap, ◌∙◌, inl, inr, arith}
-use Rattle.std.specs.List.{range_with_len, flat_map, AllByRecursion as All}
+use Rattle.std.specs.List.{range_with_len, flat_map, AllByRecursion}
 use Rattle.std.proofs.lemmas.Bool.{cases_Bool, cases_eq, cond-true, cond-false}
 use Rattle.refusal.specs.Faults.{Fault, first_fault}
 use Rattle.refusal.specs.declared.Refusal.{Refusal}
 
 -- where no fault is first, none holds
-pub none_held : (fs : List Fault) → first_fault fs ≡ None → All (λ f. f.held ≡ false) fs
+pub none_held : (fs : List Fault) → first_fault fs ≡ None → AllByRecursion (λ f. f.held ≡ false) fs
 none_held [] e = tt
 none_held (f ∷ fs) e =
     elim (cases_Bool f.held) [

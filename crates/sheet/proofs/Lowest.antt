@@ -1,6 +1,6 @@
 -- The lowest car above a number, one note more. Assumes nothing.
 use Rattle.std.proofs.Common.{◌≡◌, ℕ, ◌+◌, ◌<◌, ◌≤◌, List, [], ◌∷◌, ◌++◌, map, length, get_or, take, Some, None, Option, sym, subst, inl, inr, arith}
-use Rattle.std.specs.List.{ContainsAt as Has, AllByRecursion as All}
+use Rattle.std.specs.List.{ContainsAt, AllByRecursion}
 use Rattle.std.proofs.lemmas.List.{map_more}
 use Rattle.std.proofs.ByRecursion.{All-more, All-weaker, has_append_left, has_push}
 use Rattle.record.specs.declared.Car.{Car}
@@ -23,11 +23,11 @@ module _ (ns : List Note) (i : ℕ) (d : Note) (n : ℕ) (within : i < length ns
   keeps : (b : Car) → Next (take i ns) n (Some b) → (n < here.number → b.number ≤ here.number) → Next (take (i + 1) ns) n (Some b)
   keeps b h le = (
     h.0,
-    subst (λ l. Has l b) (sym one_more) (has_append_left (cars i) (here ∷ []) b h.1),
+    subst (λ l. ContainsAt l b) (sym one_more) (has_append_left (cars i) (here ∷ []) b h.1),
     All-more (λ m. n < m.car.number → b.number ≤ m.car.number) ns i d within h.2 le,
   )
 
-  lows : (next : Option Car) → Next (take i ns) n next → Lowers here next → All (λ m. n < m.car.number → here.number ≤ m.car.number) (take i ns)
+  lows : (next : Option Car) → Next (take i ns) n next → Lowers here next → AllByRecursion (λ m. n < m.car.number → here.number ≤ m.car.number) (take i ns)
   lows None all low = All-weaker (λ m. m.car.number ≤ n) (λ m. n < m.car.number → here.number ≤ m.car.number) (λ m le lt. absurd (omega arith)) (take i ns) all
   lows (Some b) h low =
       All-weaker (λ m. n < m.car.number → b.number ≤ m.car.number) (λ m. n < m.car.number → here.number ≤ m.car.number) (λ m le lt. omega (arith, le lt)) (take i ns) h.2
@@ -35,7 +35,7 @@ module _ (ns : List Note) (i : ℕ) (d : Note) (n : ℕ) (within : i < length ns
   takes : (next : Option Car) → Next (take i ns) n next → n < here.number → Lowers here next → Next (take (i + 1) ns) n (Some here)
   takes next h lt low = (
     lt,
-    subst (λ l. Has l here) (sym one_more) (has_push (cars i) here),
+    subst (λ l. ContainsAt l here) (sym one_more) (has_push (cars i) here),
     All-more (λ m. n < m.car.number → here.number ≤ m.car.number) ns i d within (lows next h low) (λ _. omega arith),
   )
 

@@ -1,7 +1,7 @@
 -- Numbers in a line: they have no space, so that a line is cut in one way. Assumes nothing.
 use Rattle.std.proofs.Common.{◌≡◌, ℕ, zero, suc, ◌^◌, ◌<◌, List, [], ◌∷◌, ◌++◌, length, get_or, drop, Some, None, Ok, Err, IsUtf8, Result, sym, refl, ap, ◌∙◌, subst, ⊎_elim, arith, lit<, length-drop}
 use Rattle.std.specs.Result.{result_ok}
-use Rattle.std.specs.List.{AllByRecursion as All}
+use Rattle.std.specs.List.{AllByRecursion}
 use Rattle.std.proofs.ByRecursion.{All-append, All-from_get_or, IsAscii-from_all}
 use Rattle.std.proofs.lemmas.Str.{IsUtf8-from_ascii}
 use Rattle.std.specs.Str.Parse.{IsNumeral, without_leading_plus, ParsesUnsigned}
@@ -34,7 +34,7 @@ pub spaceless : (s : List ℕ) → IsNumeral 10 (without_leading_plus s) → Spa
 unfolding Plain
 spaceless s h i l e = let k = plain s h i l in omega (arith, k.0, e)
 
-low : (s : List ℕ) → IsNumeral 10 (without_leading_plus s) → All (λ b. b < 128) s
+low : (s : List ℕ) → IsNumeral 10 (without_leading_plus s) → AllByRecursion (λ b. b < 128) s
 unfolding Plain
 low s h = All-from_get_or (λ b. b < 128) s 0 (λ i l. (plain s h i l).1)
 
@@ -45,7 +45,7 @@ line_text n line l =
     let c = low l.third l.ticks_is.0 in
     let b = All-append low-all l.second (32 ∷ l.third) (low l.second l.word_is.0) (lit< tt, c) in
     let a = All-append low-all l.first (32 ∷ (l.second ++ (32 ∷ l.third))) (low l.first l.car_is.0) (lit< tt, b) in
-    IsUtf8-from_ascii line (IsAscii-from_all line (subst (All low-all) (sym l.laid_out) (lit< tt, (lit< tt, a))))
+    IsUtf8-from_ascii line (IsAscii-from_all line (subst (AllByRecursion low-all) (sym l.laid_out) (lit< tt, (lit< tt, a))))
 
 later : (a : ℕ) (s : List ℕ) → Spaceless (a ∷ s) → Spaceless s
 later a s none i l e = none (suc i) (omega arith) e

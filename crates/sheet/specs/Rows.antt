@@ -1,6 +1,6 @@
 -- The rows of a sheet. Assumes nothing.
 use Rattle.std.specs.Prelude.{◌≡◌, ℕ, ◌<◌, ◌≤◌, ◌⊎◌, List, map, length, Some, None, Ok, Err, Option, Result, slice_index}
-use Rattle.std.specs.List.{ContainsAt as Has, AllByRecursion as All}
+use Rattle.std.specs.List.{ContainsAt, AllByRecursion}
 use Rattle.refusal.specs.Faults.{first_fault}
 use Rattle.record.specs.declared.Car.{Car}
 use Rattle.record.specs.declared.Note.{Note}
@@ -38,5 +38,5 @@ Lower c n next (Some b) = ((next ≡ Some b) × (n < c.number → b.number ≤ c
 
 -- The lowest car above a number, or none.
 abbrev pub Next : List Note → ℕ → Option Car → Type 0
-Next ns n (Some c) = (n < c.number) × Has (map (λ m. m.car) ns) c × All (λ m. n < m.car.number → c.number ≤ m.car.number) ns
-Next ns n None = All (λ m. m.car.number ≤ n) ns
+Next ns n (Some c) = (n < c.number) × ContainsAt (map (λ m. m.car) ns) c × AllByRecursion (λ m. n < m.car.number → c.number ≤ m.car.number) ns
+Next ns n None = AllByRecursion (λ m. m.car.number ≤ n) ns
