@@ -1,6 +1,6 @@
 # make run: the main job on a sample. make test: the gate. make bench: one table of what things cost: carwatch beside the
 # same job in plain Rust, the monitor's calls, the last gate by crate. make play: carwatch against the slow reading, on
-# random inputs. make plant: wrong bodies that the contracts of a crate let through.
+# random inputs. make plant: bugs planted one at a time in a crate, and what refused each.
 .PHONY: run test bench play plant
 
 # the program that does the main job, and its sample
@@ -30,9 +30,9 @@ play:
 	@$(call built,$(MAIN))
 	@python3 tools/play.py $(COUNT) $(SEED)
 
-# the crate to plant bugs in, and how many at the most
+# the crate to plant bugs in, and how many in a function at most
 CRATE = share
-MOST = 60
+MOST = 8
 
 plant:
-	@cd crates/$(CRATE) && rt plant --max $(MOST)
+	@python3 tools/plant.py --most $(MOST) $(CRATE)

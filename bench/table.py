@@ -20,9 +20,13 @@ def row(what, case, figure):
     print(f"| {what} | {case} | {figure} |", flush=True)
 
 
+def built(program):
+    return f"{ROOT}/crates/{program}/out/{program}"
+
+
 def read_rows(program):
     """The rows of the table that one of our measuring programs prints, without its two heading lines."""
-    text = subprocess.run([f"{ROOT}/target/bin/{program}", "run"], check=True, capture_output=True, text=True).stdout
+    text = subprocess.run([built(program), "run"], check=True, capture_output=True, text=True).stdout
     return [[cell.strip() for cell in line.strip().strip("|").split("|")] for line in text.splitlines()[2:]]
 
 
@@ -56,7 +60,7 @@ def carwatch(folder):
     subprocess.run(["rustc", "-O", "-o", plain, f"{ROOT}/bench/plain/carwatch.rs"], check=True)
     for ticks in (30, 3_000, 300_000):
         path = generated(folder, ticks)
-        ours = best(f"{ROOT}/target/bin/carwatch", path, f"{folder}/ours")
+        ours = best(built("carwatch"), path, f"{folder}/ours")
         theirs = best(plain, path, f"{folder}/theirs")
         if not same(f"{folder}/ours", f"{folder}/theirs"):
             sys.exit("bench: carwatch and plain Rust print different lines")

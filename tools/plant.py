@@ -7,8 +7,8 @@ A bug is a small edit of one line of a function's body that keeps the shape of t
 operand, variant, value or order of arguments, a dropped statement, a missed case, a call made twice. At most N are planted in a function (default
 8), as different from each other as there are; edits that do not compile are passed over. A function is proved from its
 own body and the contracts of what it calls, so one check tries one bug in each function of the crate at once, and a bug
-that seems to be proved is tried again alone. This is done by `rt dev` on a copy of the repository below target/, so the
-crates under CRATE have to be proved before (`rt check CRATE`).
+that seems to be proved is tried again alone. This is done by `rt check` on a copy of the repository in a folder for
+temporary files. (`rt plant` tries bugs of other sorts: bodies that give up, and calls whose arguments or result differ.)
 
 Prints a line for each bug, as JSON: where it stands, what it was and became, the verdict, and what refused it: the
 clause or step that does not close, or the place in the proof that no longer fits. `shown` says that the check gave values
@@ -16,17 +16,19 @@ for which the clause fails. A bug that is still `proved` is one to look at: eith
 function does, or a contract is too weak.
 """
 import argparse
+import atexit
 import json
 import os
 import re
 import shutil
 import subprocess
 import sys
+import tempfile
 
 ROOT = os.path.dirname(os.path.dirname(os.path.abspath(__file__)))
 
 HEAD = re.compile(r"^(\s*)(pub(?:\([a-z]+\))? )?(?:const )?fn (\w+)")
-BLOCK = re.compile(r"^(pub )?impl(?:<[^>]*>+)? (?:.* as (\w+)|(\w+)(?:<.*>)?) \{$")
+BLOCK = re.compile(r"^impl(?:<[^>]*>+)? (?:(?:\w+::)*(\w+)(?:<[^>]*>)? for )?(\w+)(?:<.*>)? \{$")
 
 
 class Function:
@@ -44,7 +46,8 @@ def functions(path, lines):
             break
         block = BLOCK.match(line)
         if block:
-            owner, shared = (block.group(2) or block.group(3)) + "::", block.group(1) is not None
+            # the check names an impl of a trait by the type and the trait
+            owner, shared = block.group(2) + (block.group(1) or "") + "::", block.group(1) is not None
         elif line.startswith("}"):
             owner, shared = "", False
         head = HEAD.match(line)
@@ -274,25 +277,18 @@ def source_files(crate_dir):
                 yield os.path.join(folder, name)
 
 
-def workplace(name):
-    """A copy of the repository with what has been proved of it."""
-    place = os.path.join(ROOT, "target", "plant", name)
-    shutil.rmtree(place, ignore_errors=True)
-    os.makedirs(os.path.join(place, "target"))
-    shutil.copytree(os.path.join(ROOT, "crates"), os.path.join(place, "crates"))
+def workplace():
+    """A copy of the repository, outside the checkout."""
+    place = tempfile.mkdtemp(prefix="planted-")
+    atexit.register(shutil.rmtree, place, ignore_errors=True)
+    shutil.copytree(os.path.join(ROOT, "crates"), os.path.join(place, "crates"), ignore=shutil.ignore_patterns("out"))
     shutil.copy(os.path.join(ROOT, "crates.txt"), place)
-    for part in ("rlib", "stamp"):
-        shutil.copytree(os.path.join(ROOT, "target", part), os.path.join(place, "target", part))
     return place
 
 
-def compile_only(place, crate):
-    done = subprocess.run(["rt", "mir", crate], cwd=place, stdout=subprocess.PIPE, stderr=subprocess.STDOUT, text=True)
-    return done.stdout if done.returncode else ""
-
-
 def check(place, crate):
-    done = subprocess.run(["rt", "dev", crate], cwd=place, stdout=subprocess.PIPE, stderr=subprocess.STDOUT, text=True)
+    folder = os.path.join(place, "crates", crate)
+    done = subprocess.run(["rt", "check"], cwd=folder, stdout=subprocess.PIPE, stderr=subprocess.STDOUT, text=True)
     return done.stdout
 
 
@@ -368,7 +364,7 @@ class Crate:
         found = set()
         for path, line in re.findall(r"^(\S+?\.rt):(\d+):\d+: error", output, re.M):
             for function in planted:
-                if os.path.realpath(path) == os.path.realpath(function.path) and function.start < int(line) <= function.last + 1:
+                if os.path.realpath(os.path.join(self.folder, path)) == os.path.realpath(function.path) and function.start < int(line) <= function.last + 1:
                     found.add(function)
         return found
 
@@ -381,12 +377,12 @@ class Crate:
         if not line:
             return "untold", [], False
         reasons, folder = [], self.full_name(function)[len(self.name) + 2 :].replace("::", "/")
-        open_needs = re.search(r"does not close (.*?)(?:; it calls|$)", line.group(1))
-        if open_needs:
-            reasons = re.findall(r"`([^`]+)`", open_needs.group(1))
+        open_goals = re.search(r"did not prove (.*?)(?:; it calls|$)", line.group(1))
+        if open_goals:
+            reasons = re.findall(r"`([^`]+)`", open_goals.group(1))
         for path, at in re.findall(rf"^(\S+/proofs/\+?{re.escape(folder)}/\w+\.antt):(\d+):\d+: error", output, re.M):
-            reasons.append("proof of " + answer_at(path, int(at)))
-        shown = re.search(rf"of proofs/{re.escape(folder)}/Answers.antt fails, for all that is known", output) is not None
+            reasons.append("proof of " + answer_at(os.path.join(self.folder, path), int(at)))
+        shown = re.search(rf"of proofs/{re.escape(folder)}/Answers.antt may be false", output) is not None
         if reasons:
             return "refused", list(dict.fromkeys(reasons)), shown
         if line.group(1).startswith("proved") or re.match(r"(?:no proof|not proved): it calls", line.group(1)):
@@ -417,17 +413,8 @@ class Crate:
                 yield (function, bug, *verdict)
 
     def next_bugs(self, wanting):
-        """One more bug for each of these functions, if it has one that compiles."""
-        planted = {}
-        while True:
-            more = [function for function in wanting if function not in planted and self.queues[function]]
-            for function in more:
-                planted[function] = self.queues[function].pop(0)
-            if not more:
-                return planted
-            self.write(planted)
-            for function in self.not_compiled(compile_only(self.place, self.name), planted):
-                del planted[function]
+        """One more bug for each of these functions, if it has one; those that do not compile are found by the check."""
+        return {function: self.queues[function].pop(0) for function in wanting if self.queues[function]}
 
     def rows(self, most):
         counts = dict.fromkeys(self.functions, 0)
@@ -458,10 +445,9 @@ def main():
     words.add_argument("--only", default="", help="functions with this in their name")
     words.add_argument("--public", action="store_true", help="only in the public functions themselves")
     words.add_argument("--list", action="store_true", help="only say how many edits there are in each function")
-    words.add_argument("--place", default="one", help="a name for the copy, for several runs side by side")
     words.add_argument("crates", nargs="+")
     given = words.parse_args()
-    place = ROOT if given.list else workplace(given.place)
+    place = ROOT if given.list else workplace()
     for name in given.crates:
         crate = Crate(place, name, given.only)
         if given.list:

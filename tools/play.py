@@ -4,7 +4,7 @@
     tools/play.py COUNT [SEED] [PROGRAM]
 
 The inputs follow from the seed alone. It stops at the first difference, keeps
-that input in target/play.bin and names the first line that differs.
+that input in played.bin and names the first line that differs.
 """
 
 import random
@@ -16,8 +16,8 @@ from pathlib import Path
 import slow_reading
 
 ROOT = Path(__file__).resolve().parent.parent
-PROGRAM = ROOT / "target" / "bin" / "carwatch"
-KEPT = ROOT / "target" / "play.bin"
+PROGRAM = ROOT / "crates" / "carwatch" / "out" / "carwatch"
+KEPT = ROOT / "played.bin"
 
 
 def two(n):
