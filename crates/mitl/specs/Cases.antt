@@ -2,7 +2,7 @@
 use Rattle.std.specs.Prelude.{◌≡◌, ℕ, zero, suc, ◌-◌, Bool, true, false, cond, List, [], ◌∷◌, ◌++◌, map, length, replicate}
 use Rattle.std.specs.List.{range_with_len, AllByRecursion}
 use Rattle.mitl.specs.declared.Row.{Row}
-use Rattle.mitl.specs.declared.Row.TheVariants.{Input, Once, Always, Since}
+use Rattle.mitl.specs.declared.Row.TheVariants.{Input, Not, And, Or, Once, Always, Since}
 use Rattle.mitl.specs.Formulas.{Formula, parts}
 use Rattle.mitl.specs.Rows.{formula_at, formulas, read, scaled_rows}
 use Rattle.mitl.specs.Outlook.{outlook, to}
@@ -69,3 +69,22 @@ cases =
 
 abbrev pub CasesRight : Type 0
 CasesRight = AllByRecursion Right cases
+
+-- a row over inputs 0 and 1
+abbrev pub chain_of : Row → List Row
+chain_of r = Input 0 ∷ Input 1 ∷ r ∷ []
+
+-- N, A and O over the four pairs of readings. In a word of this history 1 is input 0 alone, 2 is input 1 alone, and 3
+-- is both.
+abbrev pub pair_cases : List Case
+pair_cases =
+    -- N of input 0: yes at 0 and 2 only
+    yes_at (chain_of (Not 0)) (0 ∷ 1 ∷ 2 ∷ 3 ∷ []) (0 ∷ 2 ∷ [])
+    -- A: yes at 3 only
+    ∷ yes_at (chain_of (And 0 1)) (0 ∷ 1 ∷ 2 ∷ 3 ∷ []) (3 ∷ [])
+    -- O: yes at 1, 2 and 3 only
+    ∷ yes_at (chain_of (Or 0 1)) (0 ∷ 1 ∷ 2 ∷ 3 ∷ []) (1 ∷ 2 ∷ 3 ∷ [])
+    ∷ []
+
+abbrev pub PairCasesRight : Type 0
+PairCasesRight = AllByRecursion Right pair_cases

@@ -6,7 +6,7 @@
 #![tactic(auto)]
 
 ghost use Rattle.std.specs.Prelude.{◌≡◌, ℕ, ◌+◌, ◌-◌, ◌/◌, ◌<◌, ◌≤◌, Bool, ◌&&◌, ◌||◌, ◌==◌};
-ghost use Rattle.mitl.specs.Cases.{CasesRight};
+ghost use Rattle.mitl.specs.Cases.{CasesRight, PairCasesRight};
 ghost use Rattle.mitl.specs.Formulas.{bit};
 ghost use Rattle.mitl.specs.Laws.{BoundsStretches, Decided, Foretold, OneCut, OneReading, Outlooks, Settled, Split, Worded};
 ghost use Rattle.mitl.specs.Memory.{most_stretches_lem};
@@ -53,7 +53,9 @@ fn beyond(inputs: u32, i: u8) -> bool
 
 // The verdict word with the bit of one more rule, which is set where the rule is on; a number from 16 on has no bit.
 pub fn with_rule(verdicts: u16, number: u8, on: bool) -> u16
-    ensures { (k : ℕ) → k < 16 → bit k result ≡ ((k == number && on) || bit k verdicts) }
+    ensures bits { (k : ℕ) → k < 16 → bit k result ≡ ((k == number && on) || bit k verdicts) }
+    ensures set { number < 16 → (k : ℕ) → bit k result ≡ ((k == number && on) || bit k verdicts) }
+    ensures none { 16 ≤ number → result ≡ verdicts }
 {
     if on && number < 16 {
         with_bit(verdicts, number)
@@ -64,7 +66,8 @@ pub fn with_rule(verdicts: u16, number: u8, on: bool) -> u16
 
 fn with_bit(verdicts: u16, number: u8) -> u16
     requires { number < 16 }
-    ensures { (k : ℕ) → k < 16 → bit k result ≡ (k == number || bit k verdicts) }
+    ensures bits { (k : ℕ) → k < 16 → bit k result ≡ (k == number || bit k verdicts) }
+    ensures set { (k : ℕ) → bit k result ≡ (k == number || bit k verdicts) }
 {
     verdicts | (1 << number)
 }
@@ -150,7 +153,8 @@ pub fn longest_runs_are_unique() -> u8
 
 // The worked cases come out as listed.
 pub fn cases_hold() -> u8
-    ensures { (result ≡ 0) × (CasesRight) }
+    ensures listed { (result ≡ 0) × (CasesRight) }
+    ensures pairs { PairCasesRight }
 {
     0
 }

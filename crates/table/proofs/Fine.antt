@@ -1,5 +1,5 @@
 -- What is known of a row without a fault. Assumes nothing.
-use Rattle.std.proofs.Common.{◌≡◌, ℕ, ◌<◌, ◌≤◌, Bool, true, false, cond, not, ◌&&◌, ◌||◌, eqb, ltb, List, length, is_some, Some, None, Option, unwrap_or, sym, refl, ap, ◌∙◌, inl, inr, arith}
+use Rattle.std.proofs.Common.{◌≡◌, ℕ, ◌<◌, ◌≤◌, Bool, true, false, cond, not, ◌&&◌, ◌||◌, eqb, ltb, List, length, is_some, Some, None, Option, unwrap_or, sym, refl, ap, ◌∙◌, subst, inl, inr, arith}
 use Rattle.std.proofs.lemmas.Bool.{cases_Bool, and_parts, and_from, not-false, not_from_false, or_parts, ltb-false, eqb-false, both_ways, cond-true, lt-ltb}
 use Rattle.mitl.specs.declared.Row.{Row}
 use Rattle.mitl.specs.Rows.{row_at}
@@ -7,7 +7,7 @@ use Rattle.mitl.specs.Windows.{sound_window}
 use Rattle.plan.specs.Places.{place_among_lem}
 use Rattle.plan.specs.Sound.{is_a_rule, operand_ok, row_ok}
 use Rattle.plan.proofs.Found.{found_place}
-use Rattle.table.specs.Faults.{operand_place, unless_rule, operands_right, faults_as, faults_of, place_in, row_as}
+use Rattle.table.specs.Faults.{operand_place, unless_rule, operands_right, faults_as, faults_of, place_in, row_as, rule_used}
 use Rattle.table.specs.Letters.{well_filled_lem, window_used}
 use Rattle.refusal.specs.Faults.{first_fault}
 use Rattle.table.specs.declared.row.Fields.{Fields}
@@ -45,6 +45,11 @@ module _ (admits : ℕ → ℕ → Bool) (told : ℕ) (ns : List ℕ) (rs : List
   pub fine_of : (o : Option Letter) (f : Fields) → first_fault (faults_of admits told ns rs r o f) ≡ None → (c : Letter) × (o ≡ Some c) × Fine told ns rs r c f
   fine_of None f e = let z : ◌≡◌ {A = ℕ} 0 1 = cc in absurd (omega arith)
   fine_of (Some c) f e = (c, refl, fine_as c f e)
+
+  -- the number of an R row without a fault was not used before
+  pub unused_of : (o : Option Letter) (f : Fields) → o ≡ Some R → first_fault (faults_of admits told ns rs r o f) ≡ None → rule_used rs f.number ≡ false
+  unused_of o f is e =
+      (none_held (faults_as admits told ns rs r R f) (subst (λ x. first_fault (faults_of admits told ns rs r x f) ≡ None) is e)).1.1.1.0
 
 -- a row without a fault may stand at its place of a plan
 module _ (ns : List ℕ) (rs rows : List Row) (k : ℕ) (long : length ns ≡ k) (same : (j : ℕ) → j < k → row_at rows j ≡ row_at rs j) where

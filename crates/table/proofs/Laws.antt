@@ -8,13 +8,14 @@ use Rattle.plan.specs.Sound.{is_a_rule}
 use Rattle.plan.proofs.Below.{some_from, some_none}
 use Rattle.table.specs.Chain.{on_chain, row_in, fields_at, first_from, chain_length, ruled, head_faults, row_faults, chain_faults, table_refusal}
 use Rattle.table.specs.Decoded.{Decoded}
-use Rattle.table.specs.Laws.{Clear, GoesOn, Told, ChainEnds, SameReply, TablesTold}
+use Rattle.table.specs.Laws.{Clear, GoesOn, Told, ChainEnds, RowsFit, SameReply, TablesTold}
 use Rattle.refusal.specs.Faults.{Fault, fault, first_fault}
 use Rattle.table.specs.Refusals.{of_table}
 use Rattle.refusal.specs.declared.Refusal.{Refusal}
 use Rattle.table.specs.declared.fault.TableFault.{TableFault}
 use Rattle.table.proofs.Chains.{Headed, headed, low_at, apart_at, room_at, longer, ends_at}
 use Rattle.table.proofs.Finish.{head_refused, row_refused, rule_refused, not_refused}
+use Rattle.table.proofs.Fitting.{rows_fit}
 use Rattle.table.proofs.Said.{said}
 use Rattle.refusal.proofs.Firsts.{along_none, along_some, none_parts, none_along}
 use Rattle.table.proofs.Numbers.{first_before, first_at}
@@ -96,11 +97,15 @@ module _ (admits : ℕ → ℕ → Bool) (t : List ℕ) where
           apart = λ j k l m. apart_at admits t h n before j k l (omega arith);
         }
 
+  all_clear : table_refusal admits t ≡ None → Clear admits t (chain_length t)
+  all_clear e k l = none_along (row_faults admits t) 0 (chain_length t) (parts e).1 k (omega arith) (omega arith)
+
   pub chained : table_refusal admits t ≡ None → ChainEnds admits t
   unfolding chain_length
-  chained e =
-      let p = parts e in
-      chained_by (headed t p.0) (λ k l. none_along (row_faults admits t) 0 (chain_length t) p.1 k (omega arith) (omega arith)) _ refl
+  chained e = chained_by (headed t (parts e).0) (all_clear e) _ refl
+
+  pub fit : table_refusal admits t ≡ None → RowsFit t
+  fit e = rows_fit admits t (all_clear e)
 
   same_list : {X : Type 0} (xs ys : List X) (m n : ℕ) (d : X) (zs : List X) → m ≡ n → take m xs ≡ zs → take n ys ≡ zs
       → drop m xs ≡ replicate (64 - m) d → drop n ys ≡ replicate (64 - n) d → xs ≡ ys

@@ -5,4 +5,5 @@ pub mod Chains
 pub mod Walking
 pub mod Finish
 pub mod Said
+pub mod Fitting
 pub mod Laws

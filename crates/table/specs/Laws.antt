@@ -1,11 +1,13 @@
 -- A table's refusal and its chain, by quantifiers over the places of the chain. Assumes nothing.
-use Rattle.std.specs.Prelude.{◌≡◌, ℕ, suc, ◌<◌, ◌≤◌, Bool, true, false, List, is_some, Some, None, Ok, Err, Decides, Result, ◌≢◌}
+use Rattle.std.specs.Prelude.{◌≡◌, ℕ, suc, ◌<◌, ◌≤◌, Bool, true, false, List, length, is_some, Some, None, Ok, Err, Decides, Result, ◌≢◌}
+use Rattle.mitl.specs.Blocks.{Proper}
+use Rattle.mitl.specs.Rows.{row_at, Chained, RulesApart}
 use Rattle.plan.specs.declared.plan.Plan.{Plan}
 use Rattle.plan.specs.Places.{place_among_lem}
 use Rattle.plan.specs.Sound.{is_a_rule}
 use Rattle.refusal.specs.declared.Refusal.{Refusal}
 use Rattle.table.specs.declared.fault.TableFault.{TableFault}
-use Rattle.table.specs.Chain.{on_chain, fields_at, row_in, numbers_before, rows_before, chain_length, head_faults, row_faults, table_refusal}
+use Rattle.table.specs.Chain.{on_chain, fields_at, row_in, numbers_before, rows_before, rows_in, chain_length, head_faults, row_faults, table_refusal}
 use Rattle.table.specs.Decoded.{Decoded}
 use Rattle.table.specs.Faults.{operand_place, place_in, rule_used}
 use Rattle.table.specs.Layout.{fields_of, rows_told}
@@ -51,6 +53,13 @@ module _ (admits : ℕ → ℕ → Bool) (t : List ℕ) where
     pub ends : on_chain t (chain_length t) ≡ 0
     pub within : (k : ℕ) → k < chain_length t → (1 ≤ on_chain t k) × (on_chain t k ≤ rows_told t)
     pub apart : (j k : ℕ) → j < k → k < chain_length t → on_chain t j ≢ on_chain t k
+
+-- the rows of the chain meet the premises of the laws of past MITL: operands on earlier rows, windows that do not end
+-- before they start, and no two rules with one number
+pub record RowsFit (t : List ℕ) : Type 0 where
+  pub chained : Chained (rows_in t)
+  pub proper : (k : ℕ) → k < length (rows_in t) → Proper (row_at (rows_in t) k)
+  pub rules_apart : RulesApart (rows_in t)
 
 -- the same plan, or the same refusal
 abbrev pub SameReply : Result Plan TableFault → Result Plan TableFault → Type 0

@@ -6,11 +6,11 @@
 
 #![tactic(auto)]
 
-ghost use Rattle.std.specs.Prelude.{◌≡◌, ℕ, ◌+◌, ◌*◌, ◌<◌, ◌≤◌, true, length, Ok};
+ghost use Rattle.std.specs.Prelude.{◌≡◌, ℕ, ◌+◌, ◌*◌, ◌<◌, ◌≤◌, Bool, true, List, length, None, Ok};
 ghost use Rattle.table.specs.Steps.{Opened, Walked};
-ghost use Rattle.table.specs.Laws.{TablesTold};
+ghost use Rattle.table.specs.Laws.{RowsFit, TablesTold};
 ghost use Rattle.table.specs.Decoded.{Decoded};
-ghost use Rattle.table.specs.Chain.{right_head};
+ghost use Rattle.table.specs.Chain.{right_head, table_refusal};
 
 pub mod fault;
 mod row;
@@ -122,9 +122,10 @@ pub fn decode_any(bytes: &[u8]) -> Result<Plan, TableFault>
 }
 
 // The refusal of a table in words of the places along its chain, that a sound chain ends and takes no row twice,
-// and that a table has one reply.
+// and that a table has one reply. The rows of a sound table meet the premises of the laws of past MITL.
 pub fn tables_hold() -> u8
-    ensures { (result ≡ 0) × (TablesTold) }
+    ensures told { (result ≡ 0) × (TablesTold) }
+    ensures fit { (admits : ℕ → ℕ → Bool) (t : List ℕ) → table_refusal admits t ≡ None → RowsFit t }
 {
     0
 }

@@ -5,6 +5,9 @@ use Rattle.mitl.specs.Formulas.{bit}
 use Rattle.mitl.proofs.Words.{bit_or_power}
 use Rattle.mitl.proofs.with_bit.Goals as goal
 
-pub returns : goal.returns
-returns c k small =
+pub returns-clause-set : goal.returns-clause-set
+returns-clause-set c k =
     ap (λ x. bit k (bit_or c.args.verdicts x)) (one_shl c.args.number 16 c.requires) ∙ bit_or_power c.args.verdicts c.args.number k
+
+pub returns-clause-bits : goal.returns-clause-bits
+returns-clause-bits c k small = returns-clause-set c k
