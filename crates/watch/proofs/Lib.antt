@@ -5,3 +5,4 @@ pub mod Asking
 pub mod Feeding
 pub mod Taking
 pub mod Promised
+pub mod Stays

@@ -3,3 +3,4 @@ pub mod Keeping
 pub mod Made
 pub mod Replies
 pub mod Promised
+pub mod Stays

@@ -5,10 +5,12 @@
 ghost use Rattle.std.specs.Prelude.{◌≡◌, ℕ, ◌*◌, ◌<◌, ◌≤◌, Bool, true, false, List, [], ◌∷◌, length, drop, is_ok, Some};
 ghost use Rattle.plan.specs.Rows.{rows_of};
 ghost use Rattle.mitl.specs.Rows.{timed_rows};
+ghost use Rattle.record.specs.Layout.{fields_at};
 ghost use Rattle.watch.specs.Replies.{ReadForCar, Loaded, PlacedRow, timed_only};
 ghost use Rattle.watch.specs.Keeping.{held, Fresh, Runs, Steps};
 ghost use Rattle.watch.specs.Promised.{BothEnds, Promise};
 ghost use Rattle.watch.specs.Made.{set_made, feed_made, query_made, notes_told};
+ghost use Rattle.watch.specs.Stays.{SetStays, FeedStays};
 
 pub mod fault;
 mod inner;
@@ -94,6 +96,7 @@ impl<'a, M: WindowMemory> Watch<'a, M> {
     pub fn set(&mut self, table: &[u8], cars: &[Car]) -> Result<Counts, SetFault>
         ensures step { Steps M.meaning M.admitted (held self.old.inner self.old.memories.now) (set_made table.now cars.now result) (held self.new.inner self.new.memories.now) }
         ensures refused { is_ok result ≡ false → (self.new.inner ≡ self.old.inner) × (self.new.memories.now ≡ self.old.memories.now) }
+        ensures stays { is_ok result ≡ true → SetStays table.now cars.now self.old.memories.now self.new.memories.now }
         ensures named { self.new.memories.ghost_name ≡ self.old.memories.ghost_name }
     {
         self.put(table, cars)
@@ -105,6 +108,7 @@ impl<'a, M: WindowMemory> Watch<'a, M> {
         ensures step { Steps M.meaning M.admitted (held self.old.inner self.old.memories.now) (feed_made bytes.now notes.new result) (held self.new.inner self.new.memories.now) }
         ensures others { (length notes.new ≡ length notes.old) × (drop (notes_told result) notes.new ≡ drop (notes_told result) notes.old) }
         ensures refused { is_ok result ≡ false → (self.new.inner ≡ self.old.inner) × (self.new.memories.now ≡ self.old.memories.now) }
+        ensures stays { is_ok result ≡ true → FeedStays (fields_at bytes.now) (held self.old.inner self.old.memories.now) (held self.new.inner self.new.memories.now) }
         ensures named { self.new.memories.ghost_name ≡ self.old.memories.ghost_name }
     {
         self.take(bytes, notes)
@@ -138,6 +142,7 @@ impl<'a, M: WindowMemory> Watch<'a, M> {
     fn put(&mut self, table: &[u8], cars: &[Car]) -> Result<Counts, SetFault>
         ensures step { Steps M.meaning M.admitted (held self.old.inner self.old.memories.now) (set_made table.now cars.now result) (held self.new.inner self.new.memories.now) }
         ensures refused { is_ok result ≡ false → (self.new.inner ≡ self.old.inner) × (self.new.memories.now ≡ self.old.memories.now) }
+        ensures stays { is_ok result ≡ true → SetStays table.now cars.now self.old.memories.now self.new.memories.now }
         ensures named { self.new.memories.ghost_name ≡ self.old.memories.ghost_name }
     {
         match load::<M>(table, cars, self.memories.len()) {
@@ -178,6 +183,7 @@ impl<'a, M: WindowMemory> Watch<'a, M> {
         ensures step { Steps M.meaning M.admitted (held self.old.inner self.old.memories.now) (feed_made bytes.now notes.new result) (held self.new.inner self.new.memories.now) }
         ensures others { (length notes.new ≡ length notes.old) × (drop (notes_told result) notes.new ≡ drop (notes_told result) notes.old) }
         ensures refused { is_ok result ≡ false → (self.new.inner ≡ self.old.inner) × (self.new.memories.now ≡ self.old.memories.now) }
+        ensures stays { is_ok result ≡ true → FeedStays (fields_at bytes.now) (held self.old.inner self.old.memories.now) (held self.new.inner self.new.memories.now) }
         ensures named { self.new.memories.ghost_name ≡ self.old.memories.ghost_name }
     {
         let record = match read_for_car(bytes) {

@@ -6,6 +6,7 @@ use Rattle.book.specs.Calls.{set, planned, set_faults}
 use Rattle.watch.specs.Keeping.{held, Keeps}
 use Rattle.watch.specs.Refusals.{of_set}
 use Rattle.watch.proofs.Sets.{set_kept}
+use Rattle.watch.proofs.Stays.{set_stays}
 use Rattle.watch.proofs.Steps.{refused_step, accepted_step}
 use Rattle.watch.proofs.Watch.put.Goals as goal
 
@@ -26,6 +27,7 @@ returns-in-Ok g c =
           (ap planned (c.counts-counts.ensures ∙ ap counts_of loaded.1.rows))
           (set_kept o admitted room t cs inner ms ms' keeps.size none loaded.1 loaded.2 c.prepare_cars.ensures);
       refused = λ e. absurd (true≢false e);
+      stays = λ _. set_stays loaded.1 c.prepare_cars.ensures;
       named = refl;
     }
 
@@ -39,5 +41,6 @@ returns-in-Err g c =
       step = λ room k keeps. refused_step admitted room (Keeps o room) k (set t cs) _ (of_set c.in-Err.fault) []
           (subst (λ n. first_fault (set_faults admitted n t cs) ≡ Some (of_set c.in-Err.fault)) keeps.size c.in-Err.ensures) refl keeps;
       refused = λ _. (refl, refl);
+      stays = λ e. cc;
       named = refl;
     }

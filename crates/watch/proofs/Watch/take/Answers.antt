@@ -2,12 +2,13 @@ use Rattle.std.proofs.Common.{◌≡◌, ℕ, [], length, sym, refl, ap, ◌∙�
 use Rattle.std.proofs.lemmas.Bool.{true≢false}
 use Rattle.refusal.specs.Faults.{refusal}
 use Rattle.record.specs.declared.Record.{Record}
-use Rattle.record.specs.Layout.{is_I}
+use Rattle.record.specs.Layout.{is_I, is_E}
 use Rattle.cars.specs.Refusals.{of_feed}
 use Rattle.book.specs.Calls.{feed}
 use Rattle.watch.specs.Keeping.{held, Keeps}
 use Rattle.watch.proofs.Feeding.{Lettered, bytes_first, lettered}
 use Rattle.watch.proofs.Taking.{car_turned_down, restart_step, end_step, place_refused, inputs_step}
+use Rattle.watch.proofs.Stays.{part_stays, all_stay}
 use Rattle.watch.proofs.Steps.{refused_step}
 use Rattle.watch.proofs.Watch.take.Goals as goal
 
@@ -23,6 +24,7 @@ returns-in-Err g c =
           (bytes_first k bytes (length ns) e c.in-Err.ensures) refl keeps;
       others = (refl, refl);
       refused = λ _. (refl, refl);
+      stays = λ e. cc;
       named = refl;
     }
 
@@ -43,6 +45,7 @@ returns-in-Err-record g c =
           (subst (λ t. Keeps o room (held (record { plan = c.args.self.now.inner.plan; cars = t }) c.args.self.now.memories.now) k) (sym told.1) keeps);
       others = (refl, refl);
       refused = λ _. (ap (λ t. record { plan = c.args.self.now.inner.plan; cars = t }) told.1, refl);
+      stays = λ e. cc;
       named = refl;
     }
 
@@ -66,6 +69,7 @@ returns-then-record-eq82 g c =
           c.clear_car.new.memories c.if-record-eq82.true c.clear_car.ensures;
       others = (refl, refl);
       refused = λ e. absurd (true≢false e);
+      stays = λ _. part_stays w bytes r read.1 c.record.new.self c.in-Ok-record.at c.in-Ok-record.ensures c.clear_car.new.memories (ap is_E c.if-record-eq82.true) c.clear_car.ensures.only;
       named = refl;
     }
 
@@ -82,6 +86,7 @@ returns-then-record-eq69 g c =
       step = λ room k keeps. end_step o admitted room w k keeps bytes (length ns) read.0 r read.1 c.record.new.self c.in-Ok-record.at c.in-Ok-record.ensures c.if-record-eq69.true;
       others = (refl, refl);
       refused = λ e. absurd (true≢false e);
+      stays = λ _. all_stay w bytes r read.1 c.record.new.self c.in-Ok-record.at c.in-Ok-record.ensures;
       named = refl;
     }
 
@@ -103,6 +108,7 @@ returns-then-notes-eq0 g c =
           (subst (λ t. Keeps o room (held (record { plan = c.args.self.now.inner.plan; cars = t }) c.args.self.now.memories.now) k) (sym same) keeps);
       others = (refl, refl);
       refused = λ _. (ap (λ t. record { plan = c.args.self.now.inner.plan; cars = t }) same, refl);
+      stays = λ e. cc;
       named = refl;
     }
 
@@ -123,5 +129,6 @@ returns g c =
           c.feed_car.new.memories ns ns' c.feed_car.result is size (λ e. c.if-notes-eq0.false (size ∙ e)) c.feed_car.ensures;
       others = (c.feed_car.ensures.places, c.feed_car.ensures.rest);
       refused = λ e. absurd (true≢false e);
+      stays = λ _. part_stays w bytes r read.1 c.record.new.self c.in-Ok-record.at c.in-Ok-record.ensures c.feed_car.new.memories (ap is_E is) c.feed_car.ensures.only;
       named = refl;
     }
