@@ -1,5 +1,5 @@
 //! Marks in words: mark d is bit d % 64 of word d / 64, bit 0 being the least.
-ghost use Rattle.std.specs.Prelude.{◌≡◌, ℕ, ◌+◌, ◌-◌, ◌*◌, ◌^◌, ◌<◌, ◌≤◌, true, false, not, ◌&&◌, ◌||◌, ltb, if◌then◌else◌, nat_le, nat_lt, slice_index};
+ghost use Rattle.std.specs.Prelude.{◌≡◌, ℕ, ◌+◌, ◌-◌, ◌*◌, ◌^◌, ◌<◌, ◌≤◌, true, false, not, ◌&&◌, ◌||◌, if◌then◌else◌, nat_le, nat_lt, slice_index};
 ghost use Rattle.mitl.specs.Formulas.{bit};
 ghost use Rattle.mitl.specs.Memory.{stretches};
 ghost use Rattle.bit_marks.specs.Marks.{marked, ends_by};
@@ -53,7 +53,7 @@ fn between(first: usize, end: usize, at: usize) -> u64
 // The 64 bits from place `by` on of a low word and the high word after it.
 fn joined(low: u64, high: u64, by: usize) -> u64
     requires { by < 64 }
-    ensures { (k : ℕ) → k < 64 → bit k result ≡ (if ltb (k + by) 64 then bit (k + by) low else bit (k + by - 64) high) }
+    ensures { (k : ℕ) → k < 64 → bit k result ≡ (if nat_lt (k + by) 64 then bit (k + by) low else bit (k + by - 64) high) }
 {
     if by == 0 {
         low

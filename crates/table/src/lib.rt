@@ -71,7 +71,7 @@ struct Draft {
 // The rows along the chain, or their first fault.
 fn walk<A: Admission>(bytes: &[u8], head: Head) -> Result<Draft, RowFault>
     requires { Opened bytes.now (Ok head) }
-    ensures { Walked A.Admission.admitted bytes.now result }
+    ensures { Walked A.admitted bytes.now result }
 {
     let mut rows = [Row::Input { bit: 0 }; 64];
     let mut numbers = [0; 64];
@@ -93,7 +93,7 @@ fn walk<A: Admission>(bytes: &[u8], head: Head) -> Result<Draft, RowFault>
 
 // The plan of a table for memories that admit these windows, or the table's refusal.
 pub fn decode<A: Admission>(bytes: &[u8]) -> Result<Plan, TableFault>
-    ensures { Decoded A.Admission.admitted bytes.now result }
+    ensures { Decoded A.admitted bytes.now result }
 {
     let head = open(bytes)?;
     let draft = walk::<A>(bytes, head)?;

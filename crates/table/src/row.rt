@@ -203,7 +203,7 @@ fn is_the_rule(row: Row, i: u8) -> bool
 
 // Whether the memory kind refuses the window of a row: the one place where a kind is asked.
 fn is_refused<A: Admission>(letter: Letter, fields: Fields) -> bool
-    ensures { result ≡ (window_used letter && not (A.Admission.admitted fields.a fields.b)) }
+    ensures { result ≡ (window_used letter && not (A.admitted fields.a fields.b)) }
 {
     letter.uses_window() && !A::admits(fields.a, fields.b)
 }
@@ -266,7 +266,7 @@ fn judged<A: Admission>(
     at: u8,
 ) -> Result<Row, RowFault>
     requires { (length numbers.now ≡ length rows.now) × (length rows.now ≤ 64) }
-    ensures { Judged A.Admission.admitted told numbers.now rows.now at letter fields result }
+    ensures { Judged A.admitted told numbers.now rows.now at letter fields result }
 {
     if !fields.well_filled(letter) {
         return Err(RowFault::Field(at));
@@ -305,7 +305,7 @@ pub(crate) fn take<A: Admission>(
     at: u8,
 ) -> Result<Step, RowFault>
     requires { (1 ≤ at) × (row_start at + 16 ≤ length bytes.now) × (length numbers.now ≡ length rows.now) × (length rows.now ≤ 64) }
-    ensures { Stepped A.Admission.admitted told numbers.now rows.now bytes.now at result }
+    ensures { Stepped A.admitted told numbers.now rows.now bytes.now at result }
 {
     let fields = Fields::of_row(bytes, at);
     let Some(letter) = Letter::of(fields.letter) else {

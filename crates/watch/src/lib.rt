@@ -41,7 +41,7 @@ fn read_for_car(bytes: &[u8]) -> Result<Record, FeedFault>
 
 // The plan of a table and the cars of a list, for so many memories.
 fn load<A: Admission>(table: &[u8], cars: &[Car], room: usize) -> Result<Inner, SetFault>
-    ensures { Loaded A.Admission.admitted table.now cars.now room result }
+    ensures { Loaded A.admitted table.now cars.now room result }
 {
     let plan = decode::<A>(table)?;
     let list = CarTable::list(cars)?;

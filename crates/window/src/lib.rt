@@ -30,7 +30,7 @@ pub trait WindowMemory: Copy + Admission {
 
     // Makes an admitted window stand with all marks no and says yes; else says no and the memory stays as it was.
     fn prepare(&mut self, a: u32, b: u32) -> bool
-        ensures value { result ≡ Self.Admission.admitted a b }
+        ensures value { result ≡ Self.admitted a b }
         ensures accepted { result ≡ true → meaning self.new ≡ clean a b }
         ensures refused { result ≡ false → self.new ≡ self.old };
 
@@ -57,10 +57,10 @@ pub trait WindowMemory: Copy + Admission {
         ensures { result ≡ counted (meaning self.now) };
 
     // the short windows from zero are always admitted
-    ghost floor: { (b : ℕ) → 1 ≤ b → b ≤ 64 → Self.Admission.admitted 0 b ≡ true };
+    ghost floor: { (b : ℕ) → 1 ≤ b → b ≤ 64 → Self.admitted 0 b ≡ true };
 
     // only windows that a table may have are admitted
-    ghost ceiling: { (a b : ℕ) → Self.Admission.admitted a b ≡ true → sound_window a b ≡ true };
+    ghost ceiling: { (a b : ℕ) → Self.admitted a b ≡ true → sound_window a b ≡ true };
 
     // there are b marks: past them there is no yes
     ghost within: { (m : Self) (d : ℕ) → (meaning m).b ≤ d → (meaning m).mark d ≡ false };
