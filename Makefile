@@ -1,5 +1,5 @@
 # make run: the main job on a sample. make test: the gate. make bench: one table of what things cost: carwatch beside the
-# same job in plain Rust, the monitor's calls, the last gate by crate. make play: carwatch against the slow reading, on
+# same job in plain Rust, the monitor's calls, the last gate. make play: carwatch against the slow reading, on
 # random inputs. make plant: bugs planted one at a time in a crate, and what refused each.
 .PHONY: run test bench play plant
 
