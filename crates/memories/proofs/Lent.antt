@@ -41,27 +41,33 @@ module _ {X : Type 0} (a e : ℕ) (xs ys : List X) (order : a ≤ e) (within : e
       get_or-append_right (take a xs) _ a k d front (omega arith) ∙ get_or-append_right ys _ (e - a) (k - a) d many (omega arith)
       ∙ get_or-drop (e - a) (drop a xs) (k - a - (e - a)) d ∙ get_or-drop a xs _ d ∙ ap (λ n. get_or xs n d) at
 
--- the parts of the other cars are as they were
-pub other_part : {X : Type 0} (n i j : ℕ) (ms ms' : List X) → OnlyPart n i ms ms' → (j ≡ i → ⊥) → part_at n j ms' ≡ part_at n j ms
-other_part {X} n i j ms ms' only apart = same_lists _ _ size at
+-- what the part of a car holds
+part_reads : {X : Type 0} (n j : ℕ) (xs : List X) (k : ℕ) (d : X) → k < n → get_or (part_at n j xs) k d ≡ get_or xs (j * n + k) d
+part_reads n j xs k d lt = get_or-take (j * n + n - j * n) (drop (j * n) xs) k d (omega arith) ∙ get_or-drop (j * n) xs k d
+
+-- a part whose memories are as they were
+pub same_part : {X : Type 0} (n j : ℕ) (ms ms' : List X) → length ms' ≡ length ms → ((k : ℕ) (d : X) → k < n → get_or ms' (j * n + k) d ≡ get_or ms (j * n + k) d) → part_at n j ms' ≡ part_at n j ms
+same_part {X} n j ms ms' long same = same_lists _ _ size at
   where
     size : length (part_at n j ms') ≡ length (part_at n j ms)
     size = length-take (j * n + n - j * n) (drop (j * n) ms')
-        ∙ ap (λ k. min (j * n + n - j * n) k) (length-drop (j * n) ms' ∙ ap (λ k. k - j * n) only.long ∙ sym (length-drop (j * n) ms))
+        ∙ ap (λ k. min (j * n + n - j * n) k) (length-drop (j * n) ms' ∙ ap (λ k. k - j * n) long ∙ sym (length-drop (j * n) ms))
         ∙ sym (length-take (j * n + n - j * n) (drop (j * n) ms))
-
-    read : (xs : List X) (k : ℕ) (d : X) → k < n → get_or (part_at n j xs) k d ≡ get_or xs (j * n + k) d
-    read xs k d lt = get_or-take (j * n + n - j * n) (drop (j * n) xs) k d (omega arith) ∙ get_or-drop (j * n) xs k d
 
     at : (k : ℕ) (d : X) → k < length (part_at n j ms') → get_or (part_at n j ms') k d ≡ get_or (part_at n j ms) k d
     at k d lt =
         let low : k < n = omega (arith, length-take (j * n + n - j * n) (drop (j * n) ms')) in
-        let away : (j * n + k < i * n) ⊎ (i * n + n ≤ j * n + k) =
-        elim (cases_lt j i) [
-          | inl less ↦ inl (omega (arith, mul-le-mul_right n less))
-          | inr more ↦ (let above : i < j = omega arith in inr (omega (arith, mul-le-mul_right n above)))
-        ] in
-        read ms' k d low ∙ only.elsewhere (j * n + k) d away ∙ sym (read ms k d low)
+        part_reads n j ms' k d low ∙ same k d low ∙ sym (part_reads n j ms k d low)
+
+-- the parts of the other cars are as they were
+pub other_part : {X : Type 0} (n i j : ℕ) (ms ms' : List X) → OnlyPart n i ms ms' → (j ≡ i → ⊥) → part_at n j ms' ≡ part_at n j ms
+other_part {X} n i j ms ms' only apart = same_part n j ms ms' only.long (λ k d low. only.elsewhere (j * n + k) d (away k low))
+  where
+    away : (k : ℕ) → k < n → (j * n + k < i * n) ⊎ (i * n + n ≤ j * n + k)
+    away k low = elim (cases_lt j i) [
+      | inl less ↦ inl (omega (arith, mul-le-mul_right n less))
+      | inr more ↦ (let above : i < j = omega arith in inr (omega (arith, mul-le-mul_right n above)))
+    ]
 
 -- The part of the car at place i, lent and back.
 pub record Back {X : Type 0} (n i from to : ℕ) (ms ys : List X) : Type 0 where

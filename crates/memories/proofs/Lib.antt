@@ -1,2 +1,3 @@
 pub mod Readied
 pub mod Lent
+pub mod Exact

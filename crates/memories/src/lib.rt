@@ -9,6 +9,7 @@ ghost use Rattle.mitl.specs.Outlook.{row_from, row_to};
 ghost use Rattle.mitl.specs.Rows.{is_timed, timed_before, timed_rows};
 ghost use Rattle.plan.specs.Rows.{rows_of};
 ghost use Rattle.engine.specs.Means.{Means};
+ghost use Rattle.memories.specs.Exact.{AllReadied, CarEmptied, CarReadied, CarTold, ReadyAt, ReadyRows};
 ghost use Rattle.memories.specs.Parts.{CarCleared, CarFed, CarPrepared, Indexed, Prepared, PreparedAt, Readied, Spanned, WindowOf};
 
 use engine::{Fed, clear, feed};
@@ -67,7 +68,8 @@ fn span(at: usize, timed: usize, len: usize) -> Option<(usize, usize)>
 
 // The memory at this place is prepared for a window.
 fn prepare_at<M: WindowMemory>(part: &mut [M], at: usize, a: u32, b: u32)
-    ensures { PreparedAt M.meaning M.admitted at a b part.old part.new }
+    ensures prepared { PreparedAt M.meaning M.admitted at a b part.old part.new }
+    ensures exactly { ReadyAt M.meaning M.admitted at a b part.old part.new }
 {
     if at < part.len() {
         let mut m = part[at];
@@ -80,6 +82,7 @@ fn prepare_at<M: WindowMemory>(part: &mut [M], at: usize, a: u32, b: u32)
 fn prepare_row<M: WindowMemory>(row: Row, part: &mut [M], at: usize)
     ensures timed { is_timed row ≡ true → PreparedAt M.meaning M.admitted at (row_from row) (row_to row) part.old part.new }
     ensures other { is_timed row ≡ false → part.new ≡ part.old }
+    ensures exactly { is_timed row ≡ true → ReadyAt M.meaning M.admitted at (row_from row) (row_to row) part.old part.new }
 {
     if let Some((a, b)) = window_of(row) {
         prepare_at(part, at, a, b);
@@ -88,7 +91,8 @@ fn prepare_row<M: WindowMemory>(row: Row, part: &mut [M], at: usize)
 
 // A memory for each timed row.
 fn prepare_part<M: WindowMemory>(plan: &Plan, part: &mut [M])
-    ensures { Readied M.meaning M.admitted (rows_of plan.now) plan.now.count part.old part.new }
+    ensures prepared { Readied M.meaning M.admitted (rows_of plan.now) plan.now.count part.old part.new }
+    ensures exactly { timed_rows (rows_of plan.now) ≤ length part.old → ReadyRows M.meaning M.admitted (rows_of plan.now) (length (rows_of plan.now)) part.old part.new }
 {
     let mut at = 0;
     for k in 0..plan.count {
@@ -107,7 +111,8 @@ pub fn timed(plan: &Plan) -> usize
 
 // The part of the car at this place is prepared.
 fn prepare_car<M: WindowMemory>(plan: &Plan, at: usize, memories: &mut [M])
-    ensures { CarPrepared M.meaning M.admitted (rows_of plan.now) at memories.old memories.new }
+    ensures prepared { CarPrepared M.meaning M.admitted (rows_of plan.now) at memories.old memories.new }
+    ensures exactly { CarReadied M.meaning M.admitted (rows_of plan.now) at memories.old memories.new }
 {
     if let Some((from, to)) = span(at, timed(plan), memories.len()) {
         prepare_part(plan, &mut memories[from..to]);
@@ -116,7 +121,8 @@ fn prepare_car<M: WindowMemory>(plan: &Plan, at: usize, memories: &mut [M])
 
 // The part of the car at this place is cleared.
 pub fn clear_car<M: WindowMemory>(plan: &Plan, at: usize, memories: &mut [M])
-    ensures { CarCleared M.meaning (rows_of plan.now) at memories.old memories.new }
+    ensures cleared { CarCleared M.meaning (rows_of plan.now) at memories.old memories.new }
+    ensures exactly { CarEmptied M.meaning (rows_of plan.now) at memories.old memories.new }
 {
     if let Some((from, to)) = span(at, timed(plan), memories.len()) {
         clear(plan, &mut memories[from..to]);
@@ -133,7 +139,8 @@ pub fn feed_car<M: WindowMemory>(
     memories: &mut [M],
     notes: &mut [Note],
 ) -> Fed
-    ensures { CarFed M.meaning (rows_of plan.now) at car word ticks memories.old notes.old memories.new notes.new result }
+    ensures fed { CarFed M.meaning (rows_of plan.now) at car word ticks memories.old notes.old memories.new notes.new result }
+    ensures exactly { CarTold M.meaning (rows_of plan.now) at car word ticks memories.old notes.old memories.new notes.new result }
 {
     match span(at, timed(plan), memories.len()) {
         Some((from, to)) => feed(plan, car, word, ticks, &mut memories[from..to], notes),
@@ -143,7 +150,8 @@ pub fn feed_car<M: WindowMemory>(
 
 // The parts of the first cars are prepared.
 fn prepare_first<M: WindowMemory>(plan: &Plan, cars: usize, memories: &mut [M])
-    ensures { Prepared M.meaning M.admitted (rows_of plan.now) cars memories.old memories.new }
+    ensures prepared { Prepared M.meaning M.admitted (rows_of plan.now) cars memories.old memories.new }
+    ensures exactly { AllReadied M.meaning M.admitted (rows_of plan.now) cars memories.old memories.new }
 {
     for i in 0..cars {
         prepare_car(plan, i, memories);
@@ -152,7 +160,8 @@ fn prepare_first<M: WindowMemory>(plan: &Plan, cars: usize, memories: &mut [M])
 
 // From the list's start a memory is prepared for each car in turn and, within it, for each timed row along the chain.
 pub fn prepare_cars<M: WindowMemory>(plan: &Plan, cars: usize, memories: &mut [M])
-    ensures { Prepared M.meaning M.admitted (rows_of plan.now) cars memories.old memories.new }
+    ensures prepared { Prepared M.meaning M.admitted (rows_of plan.now) cars memories.old memories.new }
+    ensures exactly { AllReadied M.meaning M.admitted (rows_of plan.now) cars memories.old memories.new }
 {
     prepare_first(plan, cars, memories);
 }

@@ -1,8 +1,9 @@
-use Rattle.std.proofs.Common.{◌+◌, ◌*◌, ◌<◌, length, Some, subst}
+use Rattle.std.proofs.Common.{length, Some, subst}
 use Rattle.mitl.specs.Rows.{timed_rows}
 use Rattle.plan.specs.Rows.{rows_of}
 use Rattle.memories.specs.Parts.{Spanned}
-use Rattle.memories.proofs.Lent.{lent_back, same_only, no_part, cleared_back}
+use Rattle.memories.proofs.Lent.{lent_back, cleared_back}
+use Rattle.memories.proofs.Exact.{emptied_back}
 use Rattle.memories.proofs.clear_car.Goals as goal
 
 pub returns-in-Some : goal.returns-in-Some
@@ -13,14 +14,7 @@ returns-in-Some g c =
     let to = c.in-Some.to in
     let s = subst (λ n. Spanned c.args.at n (length ms) (Some (from, to))) c.timed.ensures c.in-Some.ensures in
     let back = lent_back (timed_rows rows) c.args.at from to ms c.clear.new.part s.0 s.1 s.2 c.clear.auto.part in
-    cleared_back g.M.WindowMemory.meaning rows c.args.at from to ms c.clear.new.part back c.clear.ensures.means
-
-pub returns-in_default : goal.returns-in_default
-returns-in_default g c =
-    let rows = rows_of c.args.plan.now in
-    let ms = c.args.memories.now in
-    let short : length ms < c.args.at * timed_rows rows + timed_rows rows = subst (λ n. length ms < c.args.at * n + n) c.timed.ensures c.in_default.ensures in
     record {
-      only = same_only (timed_rows rows) c.args.at ms;
-      means = λ h means. absurd (no_part g.M.WindowMemory.meaning rows c.args.at ms h short means);
+      cleared = cleared_back g.M.WindowMemory.meaning rows c.args.at from to ms c.clear.new.part back c.clear.ensures.means;
+      exactly = emptied_back g.M.WindowMemory.meaning rows c.args.at from to ms c.clear.new.part back s.1 s.2 c.clear.ensures.memories;
     }

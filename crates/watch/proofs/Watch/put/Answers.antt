@@ -25,7 +25,7 @@ returns-in-Ok g c =
           let none = subst (λ n. first_fault (set_faults admitted n t cs) ≡ None) keeps.size loaded.0 in
           accepted_step admitted room (Keeps o room) k (set t cs) (held inner ms') [] (planned c.counts-counts.result) none refl
           (ap planned (c.counts-counts.ensures ∙ ap counts_of loaded.1.rows))
-          (set_kept o admitted room t cs inner ms ms' keeps.size none loaded.1 loaded.2 c.prepare_cars.ensures);
+          (set_kept o admitted room t cs inner ms ms' keeps.size none loaded.1 loaded.2 c.prepare_cars.ensures.prepared);
       refused = λ e. absurd (true≢false e);
       stays = λ _. set_stays loaded.1 c.prepare_cars.ensures;
       named = refl;

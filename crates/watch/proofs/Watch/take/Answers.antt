@@ -66,7 +66,7 @@ returns-then-record-eq82 g c =
     let read = c.in-Ok.ensures in
     record {
       step = λ room k keeps. restart_step o admitted room w k keeps bytes (length ns) read.0 r read.1 c.record.new.self c.in-Ok-record.at c.in-Ok-record.ensures
-          c.clear_car.new.memories c.if-record-eq82.true c.clear_car.ensures;
+          c.clear_car.new.memories c.if-record-eq82.true c.clear_car.ensures.cleared;
       others = (refl, refl);
       refused = λ e. absurd (true≢false e);
       stays = λ _. part_stays w bytes r read.1 c.record.new.self c.in-Ok-record.at c.in-Ok-record.ensures c.clear_car.new.memories (ap is_E c.if-record-eq82.true) c.clear_car.ensures.only;
@@ -122,12 +122,12 @@ returns g c =
     let r = c.in-Ok.record in
     let read = c.in-Ok.ensures in
     let ns' = c.feed_car.new.notes in
-    let size : length ns ≡ length ns' = sym c.feed_car.ensures.places in
+    let size : length ns ≡ length ns' = sym c.feed_car.ensures.fed.places in
     let is = third r.letter (subst (λ (x : Record). Lettered x.letter) (sym read.1) (lettered bytes read.0)) c.if-record-eq82.false c.if-record-eq69.false in
     record {
       step = λ room k keeps. inputs_step o admitted room w k keeps bytes (length ns') read.0 r read.1 c.record.new.self c.in-Ok-record.at c.in-Ok-record.ensures
-          c.feed_car.new.memories ns ns' c.feed_car.result is size (λ e. c.if-notes-eq0.false (size ∙ e)) c.feed_car.ensures;
-      others = (c.feed_car.ensures.places, c.feed_car.ensures.rest);
+          c.feed_car.new.memories ns ns' c.feed_car.result is size (λ e. c.if-notes-eq0.false (size ∙ e)) c.feed_car.ensures.fed;
+      others = (c.feed_car.ensures.fed.places, c.feed_car.ensures.fed.rest);
       refused = λ e. absurd (true≢false e);
       stays = λ _. part_stays w bytes r read.1 c.record.new.self c.in-Ok-record.at c.in-Ok-record.ensures c.feed_car.new.memories (ap is_E is) c.feed_car.ensures.only;
       named = refl;
