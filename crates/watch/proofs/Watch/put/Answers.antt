@@ -27,7 +27,7 @@ returns-in-Ok g c =
           (ap planned (c.counts-counts.ensures ∙ ap counts_of loaded.1.rows))
           (set_kept o admitted room t cs inner ms ms' keeps.size none loaded.1 loaded.2 c.prepare_cars.ensures.prepared);
       refused = λ e. absurd (true≢false e);
-      stays = λ _. set_stays loaded.1 c.prepare_cars.ensures;
+      stays = λ _. set_stays loaded.1 c.prepare_cars.ensures.prepared;
       named = refl;
     }
 

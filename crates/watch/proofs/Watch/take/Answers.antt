@@ -69,7 +69,7 @@ returns-then-record-eq82 g c =
           c.clear_car.new.memories c.if-record-eq82.true c.clear_car.ensures.cleared;
       others = (refl, refl);
       refused = λ e. absurd (true≢false e);
-      stays = λ _. part_stays w bytes r read.1 c.record.new.self c.in-Ok-record.at c.in-Ok-record.ensures c.clear_car.new.memories (ap is_E c.if-record-eq82.true) c.clear_car.ensures.only;
+      stays = λ _. part_stays w bytes r read.1 c.record.new.self c.in-Ok-record.at c.in-Ok-record.ensures c.clear_car.new.memories (ap is_E c.if-record-eq82.true) c.clear_car.ensures.cleared.only;
       named = refl;
     }
 
@@ -129,6 +129,6 @@ returns g c =
           c.feed_car.new.memories ns ns' c.feed_car.result is size (λ e. c.if-notes-eq0.false (size ∙ e)) c.feed_car.ensures.fed;
       others = (c.feed_car.ensures.fed.places, c.feed_car.ensures.fed.rest);
       refused = λ e. absurd (true≢false e);
-      stays = λ _. part_stays w bytes r read.1 c.record.new.self c.in-Ok-record.at c.in-Ok-record.ensures c.feed_car.new.memories (ap is_E is) c.feed_car.ensures.only;
+      stays = λ _. part_stays w bytes r read.1 c.record.new.self c.in-Ok-record.at c.in-Ok-record.ensures c.feed_car.new.memories (ap is_E is) c.feed_car.ensures.fed.only;
       named = refl;
     }
