@@ -91,7 +91,7 @@ def gate():
         text = log.read()
     done = re.search(r"^rt: ok(.*)$", text, re.M)
     whole = re.search(r"^gate: (.*)$", text, re.M)
-    row("gate", done[1].strip(" :,") if done else "not passed", whole[1] if whole else "not ended")
+    row("gate", done[1].strip(" :;,") if done else "not passed", whole[1] if whole else "not ended")
 
 
 def main():
