@@ -28,7 +28,7 @@ import tempfile
 ROOT = os.path.dirname(os.path.dirname(os.path.abspath(__file__)))
 
 HEAD = re.compile(r"^(\s*)(pub(?:\([a-z]+\))? )?(?:const )?fn (\w+)")
-BLOCK = re.compile(r"^impl(?:<[^>]*>+)? (?:(?:\w+::)*(\w+)(?:<[^>]*>)? for )?(\w+)(?:<.*>)? \{$")
+BLOCK = re.compile(r"^impl(?:<[^>]*>+)? (?:(?:\w+::)*(\w+)(?:<(\w+)>)? for )?(\w+)(?:<.*>)? \{$")
 
 
 class Function:
@@ -46,8 +46,9 @@ def functions(path, lines):
             break
         block = BLOCK.match(line)
         if block:
-            # the check names an impl of a trait by the type and the trait
-            owner, shared = block.group(2) + (block.group(1) or "") + "::", block.group(1) is not None
+            # the check names an impl of a trait by the type, the trait and what the trait is of
+            trait, of, name = block.groups(default="")
+            owner, shared = name + trait + of + "::", trait != ""
         elif line.startswith("}"):
             owner, shared = "", False
         head = HEAD.match(line)
@@ -297,7 +298,7 @@ def answer_at(path, line):
     name = ""
     with open(path) as f:
         for text in f.read().split("\n")[:line]:
-            hit = re.match(r"(?:abbrev )?(?:pub )?([\w·-]+) :", text)
+            hit = re.match(r"(?:abbrev )?(?:pub )?([\w-]+) :", text)
             if hit:
                 name = hit.group(1)
     return name

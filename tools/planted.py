@@ -57,7 +57,7 @@ def code(text):
 
 HEAD = """# Planted bugs, one by one
 
-Each row is a bug that was planted alone in one line of a function, and what the check then could not prove of that function: a clause of its contract on some way to its end (`returns`, `returns-in-Some`, `ensures-…`), a step that must be safe or must keep a loop's invariant (`…-requires`, `loop-…`, `add-…`), or the answer in its proof that no longer fits (`proof, …`). A bug in a private function is refused by that function's own contract, on which the public ones rest. [PROMISES.md](PROMISES.md#planted-bugs) sums them up by public call; `make plant` makes such a list for a crate (`tools/plant.py`, `tools/planted.py`).
+Each row is a bug that was planted alone in one line of a function, and what the check then could not prove of that function: a clause of its contract on some way to its end (`returns`, `returns-in-Some`, `…-clause-NAME`), a step that must be safe or must keep a loop's invariant (`…-requires`, `loop-…`, `add-…`), or the answer in its proof that no longer fits (`proof, …`). A bug in a private function is refused by that function's own contract, on which the public ones rest. `make plant` makes such a list for a crate (`tools/plant.py`, `tools/planted.py`).
 
 A bug that was not refused is marked, with the reason why it is none: the function does the same with it.
 """
@@ -91,7 +91,7 @@ def calls(rows):
             reasons = {}
             for row in own:
                 for reason in row["by"][:1]:
-                    word = re.sub(r"·\d+$", "", clause(reason))
+                    word = re.sub(r"-\d+$", "", clause(reason))
                     reasons[word] = reasons.get(word, 0) + 1
             best = sorted(reasons, key=lambda w: (w.startswith("proof"), -reasons[w]))[:5]
             refused = sum(row["verdict"] == "refused" for row in own)
