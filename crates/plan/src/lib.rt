@@ -192,6 +192,13 @@ fn timed_among(rows: &[Row]) -> usize
 }
 
 impl Plan {
+    // Its rows, along the chain.
+    pub fn chain(&self) -> &[Row]
+        ensures { result.now ≡ rows_of self.now }
+    {
+        &self.rows[..self.count]
+    }
+
     // How many rows it has, of each sort.
     pub fn counts(&self) -> Counts
         ensures { result ≡ counts_of (rows_of self.now) }
