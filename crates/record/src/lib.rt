@@ -19,7 +19,7 @@ use std::fmt;
 const DAY: u32 = 864_000;
 
 // A car's identity.
-#[derive(Clone, Copy, PartialEq, Eq, Debug)]
+#[derive(Clone, Copy, PartialEq, Eq, PartialOrd, Ord, Debug)]
 pub struct Car {
     pub number: u16,
 }
@@ -49,7 +49,7 @@ impl Car {
     pub fn is(self, other: Car) -> bool
         ensures { result ≡ same_car self other }
     {
-        self.number == other.number
+        self == other
     }
 
     // The car as the place of a refusal.
@@ -106,12 +106,12 @@ pub enum RecordFault {
     NoRoom,
 }
 
-impl RecordFault {
-    // The number and place of this fault.
-    pub fn refusal(self) -> Refusal
-        ensures { result ≡ refusal_of self }
-    {
-        match self {
+// The number and place of a fault.
+impl From<RecordFault> for Refusal {
+    ghost from_gives = { λ x r. r ≡ refusal_of x };
+
+    fn from(fault: RecordFault) -> Refusal {
+        match fault {
             RecordFault::NotTwelve => Refusal::new(14, 0),
             RecordFault::UnknownLetter => Refusal::new(15, 0),
             RecordFault::BadZero => Refusal::new(16, 1),
@@ -213,10 +213,10 @@ impl Record {
     pub fn read(bytes: &[u8]) -> Result<Record, RecordFault>
         ensures { Read bytes.now result }
     {
-        match apart(bytes) {
-            Some((zero, record)) => record.checked(zero),
-            None => Err(RecordFault::NotTwelve),
-        }
+        let Some((zero, record)) = apart(bytes) else {
+            return Err(RecordFault::NotTwelve);
+        };
+        record.checked(zero)
     }
 
     // Writes the record into the first twelve bytes of the buffer, and replies 12.
