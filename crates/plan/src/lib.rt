@@ -2,7 +2,7 @@
 
 #![tactic(auto)]
 
-ghost use Rattle.std.specs.Prelude.{◌≡◌, ℕ, ◌<◌, ◌≤◌, min, true, ◌&&◌, List, [], ◌∷◌, length, drop, replicate, IfSome};
+ghost use Rattle.std.specs.Prelude.{◌≡◌, ℕ, ◌<◌, ◌≤◌, min, true, ◌&&◌, List, [], ◌∷◌, length, drop, replicate, count_by, IfSome};
 ghost use Rattle.mitl.specs.Rows.{row_at, timed_before, timed_rows};
 ghost use Rattle.mitl.specs.Windows.{sound_window, some_below, all_below};
 ghost use Rattle.mitl.specs.Rows.{is_timed};
@@ -11,7 +11,7 @@ ghost use Rattle.plan.specs.Built.{Built};
 ghost use Rattle.plan.specs.Places.{place_among_lem, FirstPlace};
 ghost use Rattle.plan.specs.Rows.{rows_of, numbers_of};
 ghost use Rattle.plan.specs.Sound.{is_a_rule, operand_ok, row_ok, sound_rows};
-ghost use Rattle.plan.specs.Totals.{counts_of, rules_before};
+ghost use Rattle.plan.specs.Totals.{counts_of};
 
 pub mod plan;
 
@@ -167,28 +167,11 @@ pub fn place_among(numbers: &[u8], number: u8) -> Option<usize>
     first_place(numbers, number)
 }
 
-fn rules_among(rows: &[Row]) -> usize
-    ensures { result ≡ rules_before rows.now (length rows.now) }
-{
-    let mut rules = 0;
-    for k in 0..rows.len() {
-        if is_rule(rows[k]) {
-            rules += 1;
-        }
-    }
-    rules
-}
-
+// How many of these rows are timed.
 fn timed_among(rows: &[Row]) -> usize
-    ensures { result ≡ timed_before rows.now (length rows.now) }
+    ensures { result ≡ count_by is_timed rows.now }
 {
-    let mut timed = 0;
-    for k in 0..rows.len() {
-        if is_timed(rows[k]) {
-            timed += 1;
-        }
-    }
-    timed
+    rows.iter().filter(|row| is_timed(**row)).count()
 }
 
 impl Plan {
@@ -200,29 +183,31 @@ impl Plan {
     }
 
     // How many rows it has, of each sort.
+    #[tactic(auto, using(crate::proofs::Timed::timed_all))]
     pub fn counts(&self) -> Counts
         ensures { result ≡ counts_of (rows_of self.now) }
     {
-        let rows = &self.rows[..self.count];
+        let chain = self.chain();
         Counts {
-            rows: self.count,
-            rules: rules_among(rows),
-            timed: timed_among(rows),
+            rows: chain.len(),
+            rules: chain.iter().filter(|row| is_rule(**row)).count(),
+            timed: timed_among(chain),
         }
     }
 
     // How many timed rows it has.
+    #[tactic(auto, using(crate::proofs::Timed::timed_all))]
     pub fn timed(&self) -> usize
         ensures { result ≡ timed_rows (rows_of self.now) }
     {
-        timed_among(&self.rows[..self.count])
+        timed_among(self.chain())
     }
 
     // How many of them stand before this place.
     pub fn timed_before(&self, place: usize) -> usize
         ensures { result ≡ timed_before (rows_of self.now) (min place self.now.count) }
     {
-        timed_among(&self.rows[..place.min(self.count)])
+        timed_among(&self.chain()[..place.min(self.count)])
     }
 
     // The place on the chain of the row with this number in its table.
