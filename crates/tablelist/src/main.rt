@@ -2,9 +2,9 @@
 
 #![tactic(auto)]
 
-ghost use Rattle.std.specs.Prelude.{◌≡◌, Some};
+ghost use Rattle.std.specs.Prelude.{◌≡◌, ℕ, Some};
 ghost use Rattle.mitl.specs.Rows.{Earlier};
-ghost use Rattle.tablelist.specs.Numbered.{numbered, line_of};
+ghost use Rattle.tablelist.specs.Numbered.{Stands, numbered, line_of};
 ghost use Rattle.tablelist.specs.Texts.{heading_text, line_text};
 
 use mitl::Row;
@@ -138,14 +138,14 @@ fn with_numbers(numbers: &[u8; 64], row: Row) -> Row
     }
 }
 
-// The line of a row with its number, by the numbers along the chain.
-fn numbered_line(numbers: &[u8; 64], number: u8, row: Row) -> Line
-    requires { Earlier 64 row }
-    ensures { result ≡ line_of numbers.now number row }
+// The line of a row that stands on the chain with this number.
+fn line_of_row(plan: &Plan, number: u8, row: Row) -> Line
+    requires { (k : ℕ) × Stands plan.now k number row }
+    ensures { (k : ℕ) → Stands plan.now k number row → result ≡ line_of plan.now k }
 {
     Line {
         number,
-        row: with_numbers(numbers, row),
+        row: with_numbers(&plan.numbers, row),
     }
 }
 
@@ -153,7 +153,7 @@ fn print_plan(rt: &HostRuntime, plan: &Plan) -> io::Result<()> {
     let heading = Heading(plan.counts());
     println!(rt; "{heading}")?;
     for (number, row) in plan.numbers.iter().zip(plan.chain()) {
-        let words = numbered_line(&plan.numbers, *number, *row);
+        let words = line_of_row(plan, *number, *row);
         println!(rt; "{words}")?;
     }
     Ok(())
