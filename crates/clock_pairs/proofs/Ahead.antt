@@ -1,5 +1,5 @@
 -- The oldest episode alone tells the verdict ahead. Assumes nothing.
-use Rattle.std.proofs.Common.{◌≡◌, ℕ, ◌+◌, ◌-◌, ◌<◌, ◌≤◌, Bool, true, false, ◌&&◌, ◌||◌, leb, List, [], ◌∷◌, length, get_or, Some, None, refl, ap, ◌∙◌, inl, inr, arith}
+use Rattle.std.proofs.Common.{◌≡◌, ℕ, ◌+◌, ◌-◌, ◌<◌, ◌≤◌, Bool, true, false, ◌&&◌, ◌||◌, leb, List, [], ◌∷◌, Some, None, refl, ap, ◌∙◌, inl, inr, arith}
 use Rattle.std.proofs.lemmas.Bool.{cases_lt, and_from, le-leb, or_right}
 use Rattle.std.proofs.lemmas.Bool.Decides.{nat_tests}
 use Rattle.mitl.specs.Memory.{ahead, Lasts}
@@ -11,10 +11,6 @@ use Rattle.clock_pairs.proofs.Order.{Apart}
 abbrev pub oldest : Episode → List Episode → Episode
 oldest e [] = e
 oldest e (f ∷ es) = oldest f es
-
-pub oldest_at : (e : Episode) (es : List Episode) (d : Episode) → get_or (e ∷ es) (length es) d ≡ oldest e es
-oldest_at e [] d = refl
-oldest_at e (f ∷ es) d = oldest_at f es d
 
 module _ (a b : ℕ) (upto : a ≤ b) where
   oldest_fell : (low : ℕ) (e : Episode) (es : List Episode) → Apart a b low (e ∷ es) → (low ≤ (oldest e es).fall) × ((oldest e es).fall < (oldest e es).rise) × ((oldest e es).rise ≤ b)

@@ -6,7 +6,7 @@
 
 #![tactic(auto)]
 
-ghost use Rattle.std.specs.Prelude.{◌≡◌, ◌+◌, ◌-◌, ◌<◌, ◌≤◌, min, Bool, true, false, ◌⊎◌, [], ◌∷◌, ◌++◌, length, take, drop, replicate, nat_le};
+ghost use Rattle.std.specs.Prelude.{◌≡◌, ◌+◌, ◌-◌, ◌<◌, ◌≤◌, min, Bool, true, false, ◌⊎◌, [], ◌∷◌, ◌++◌, length, take, drop, replicate, nat_le, MatchOption, IfSome};
 ghost use Rattle.clock_pairs.specs.Episodes.{aged, apart, covers, episode, lasting, older, reached, served, vacant};
 ghost use Rattle.clock_pairs.specs.Meanings.{goes_on, held, holding, meaning_of, sound, told};
 ghost use Rattle.mitl.specs.Memory.{ahead, cleared, counted, Lasts, most_stretches_lem, took};
@@ -37,8 +37,18 @@ pub struct ClockPairs {
     b: u32,
     // how many episodes there are
     len: u32,
-    // the episodes, newest first; the places behind them hold zeros
+    // the episodes, newest first; the places behind them are vacant
     episodes: [Episode; MOST],
+}
+
+// Content that this kind made, lent for reading: a served window and its episodes, newest first.
+#[derive(Clone, Copy)]
+struct Settled<'a> {
+    a: u32,
+    b: u32,
+    episodes: &'a [Episode],
+    ghost window: { served a b ≡ true },
+    ghost gaps: { apart a b 0 episodes.now ≡ true },
 }
 
 // An age n ticks on: once it has reached b it stays at b.
@@ -49,6 +59,9 @@ fn grown(age: u32, n: u32, b: u32) -> u32
 }
 
 impl Episode {
+    // What a place without an episode holds.
+    const VACANT: Episode = Episode { rise: 0, fall: 0 };
+
     // The episode n ticks on.
     fn grow(self, n: u32, b: u32) -> Episode
         ensures { result ≡ older b n self }
@@ -96,16 +109,30 @@ fn serves(a: u32, b: u32) -> bool
     a < b && b <= DAY && has_room(a, b)
 }
 
-// Whether the places from this one on are empty.
-fn empty_from(places: &[Episode], from: usize) -> bool
-    requires { from ≤ length places.now }
-    ensures { result ≡ vacant (drop from places.now) }
+// Whether no place holds an episode. The numbers are joined without a branch: places compared one by one with
+// `Episode::VACANT` took twice as long.
+fn all_vacant(places: &[Episode]) -> bool
+    ensures { result ≡ vacant places.now }
 {
-    let mut any = 0;
-    for i in from..places.len() {
-        any |= places[i].rise | places[i].fall;
+    places
+        .iter()
+        .fold(0, |any, place| any | place.rise | place.fall)
+        == 0
+}
+
+// Whether the episodes are newest first, none older than b, with gaps longer than b - a ticks.
+fn in_order(a: u32, b: u32, episodes: &[Episode]) -> bool
+    requires { (a ≤ b) × (b ≤ 864000) }
+    ensures { result ≡ apart a b 0 episodes.now }
+{
+    let mut low = 0;
+    for e in episodes {
+        if e.fall < low || e.rise <= e.fall || b < e.rise {
+            return false;
+        }
+        low = e.rise + (b - a) + 1;
     }
-    any == 0
+    true
 }
 
 // The episodes in the first `len` places, from place `from` on, n ticks on where they stand and without those that fell
@@ -118,20 +145,13 @@ fn age(places: &mut [Episode], from: u32, len: u32, n: u32, b: u32) -> u32
     let mut used = from;
     for i in from as usize..len as usize {
         let e = places[i].grow(n, b);
-        places[i] = Episode { rise: 0, fall: 0 };
+        places[i] = Episode::VACANT;
         if e.fall < b {
             places[used as usize] = e;
             used += 1;
         }
     }
     used
-}
-
-// How many episodes stand in the first so many places.
-fn in_use(places: &[Episode], len: u32) -> u32
-    ensures { result ≡ length (take len places.now) }
-{
-    (len as usize).min(places.len()) as u32
 }
 
 // The verdict of the next tick and how long it lasts, without an episode.
@@ -148,6 +168,42 @@ fn idle(a: u32, operand: bool) -> (bool, Option<u32>)
     }
 }
 
+impl Settled<'_> {
+    // Whether an episode reaches the tick d ahead.
+    fn marks(&self, d: u32) -> bool
+        ensures { result ≡ reached self.now.a self.now.b self.now.episodes.now d }
+    {
+        self.episodes.iter().any(|e| e.reaches(self.a, self.b, d))
+    }
+
+    // The verdict of the next tick and how long it lasts: the oldest episode tells.
+    fn forecast(&self, operand: bool) -> (bool, Option<u32>)
+        ensures next { result.0 ≡ ahead self.now.a operand (reached self.now.a self.now.b self.now.episodes.now) 0 }
+        ensures lasts { Lasts (ahead self.now.a operand (reached self.now.a self.now.b self.now.episodes.now)) result.0 result.1 }
+    {
+        let Some(oldest) = self.episodes.last() else {
+            return idle(self.a, operand);
+        };
+        let start = oldest.start(self.a);
+        let end = oldest.end(self.b);
+        if start > 0 {
+            (false, Some(start))
+        } else if operand && self.a <= end {
+            (true, None)
+        } else {
+            (true, Some(end))
+        }
+    }
+
+    // How many episodes there are.
+    fn count(&self) -> u32
+        ensures counts { result ≡ counted (told self.now.a self.now.b self.now.episodes.now) }
+        ensures few { result ≤ most_stretches_lem self.now.a self.now.b }
+    {
+        self.episodes.len() as u32
+    }
+}
+
 impl ClockPairs {
     // The window from a to b without an episode.
     fn empty(a: u32, b: u32) -> ClockPairs
@@ -157,7 +213,7 @@ impl ClockPairs {
             a,
             b,
             len: 0,
-            episodes: [Episode { rise: 0, fall: 0 }; MOST],
+            episodes: [Episode::VACANT; MOST],
         }
     }
 
@@ -194,44 +250,21 @@ impl ClockPairs {
         next
     }
 
-    // Whether an episode reaches the tick d ahead.
-    fn marks(&self, d: u32) -> bool
-        requires { self.now.len ≤ 32 }
-        ensures { result ≡ reached self.now.a self.now.b (held self.now) d }
+    // The window and its episodes, if this kind made the content.
+    fn settled(&self) -> Option<Settled<'_>>
+        ensures made { MatchOption result (sound self.now ≡ false) (λ _. sound self.now ≡ true) }
+        ensures means { IfSome result (λ s. meaning_of self.now ≡ told s.a s.b s.episodes.now) }
     {
-        for i in 0..self.len as usize {
-            if self.episodes[i].reaches(self.a, self.b, d) {
-                return true;
-            }
+        let (episodes, rest) = self.episodes.split_at_checked(self.len as usize)?;
+        if serves(self.a, self.b) && in_order(self.a, self.b, episodes) && all_vacant(rest) {
+            Some(Settled {
+                a: self.a,
+                b: self.b,
+                episodes,
+            })
+        } else {
+            None
         }
-        false
-    }
-
-    // Whether the episodes are newest first, none older than b, with gaps longer than b - a ticks.
-    fn in_order(&self) -> bool
-        requires window { (self.now.a ≤ self.now.b) × (self.now.b ≤ 864000) }
-        requires len { self.now.len ≤ 32 }
-        ensures { result ≡ apart self.now.a self.now.b 0 (held self.now) }
-    {
-        let mut low = 0;
-        for i in 0..self.len as usize {
-            let e = self.episodes[i];
-            if e.fall < low || e.rise <= e.fall || self.b < e.rise {
-                return false;
-            }
-            low = e.rise + (self.b - self.a) + 1;
-        }
-        true
-    }
-
-    // Whether this kind made the content.
-    fn is_sound(&self) -> bool
-        ensures { result ≡ sound self.now }
-    {
-        serves(self.a, self.b)
-            && self.len as usize <= MOST
-            && self.in_order()
-            && empty_from(&self.episodes, self.len as usize)
     }
 
     // Whether a yes goes on with the newest episode: that fell at most b - a ticks ago, so that the gap is erased.
@@ -279,10 +312,9 @@ impl ClockPairs {
         ensures sound { sound self.new ≡ true }
         ensures means { meaning_of self.old ≡ told self.new.a self.new.b (held self.new) }
     {
-        if self.is_sound() {
-            return;
+        if self.settled().is_none() {
+            *self = ClockPairs::fresh();
         }
-        *self = ClockPairs::fresh();
     }
 
     // Takes n ticks at which the operand is no, or none.
@@ -338,37 +370,14 @@ impl ClockPairs {
         *self = ClockPairs::empty(self.a, self.b);
     }
 
-    // The verdict of the next tick and how long it lasts: the oldest episode tells.
-    fn forecast(&self, operand: bool) -> (bool, Option<u32>)
-        requires { sound self.now ≡ true }
-        ensures next { result.0 ≡ ahead self.now.a operand (reached self.now.a self.now.b (held self.now)) 0 }
-        ensures lasts { Lasts (ahead self.now.a operand (reached self.now.a self.now.b (held self.now))) result.0 result.1 }
-    {
-        let a = self.a;
-        if self.len == 0 {
-            return idle(a, operand);
-        }
-        let oldest = self.episodes[self.len as usize - 1];
-        let start = oldest.start(a);
-        let end = oldest.end(self.b);
-        if start > 0 {
-            (false, Some(start))
-        } else if operand && a <= end {
-            (true, None)
-        } else {
-            (true, Some(end))
-        }
-    }
-
     // The reply on the run that begins.
     fn reply(&self, operand: bool) -> (bool, Option<u32>)
         ensures next { result.0 ≡ ahead (meaning_of self.now).a operand (meaning_of self.now).mark 0 }
         ensures lasts { Lasts (ahead (meaning_of self.now).a operand (meaning_of self.now).mark) result.0 result.1 }
     {
-        if self.is_sound() {
-            self.forecast(operand)
-        } else {
-            idle(0, operand)
+        match self.settled() {
+            Some(settled) => settled.forecast(operand),
+            None => idle(0, operand),
         }
     }
 
@@ -376,7 +385,10 @@ impl ClockPairs {
     fn mark(&self, d: u32) -> bool
         ensures { result ≡ (meaning_of self.now).mark d }
     {
-        self.is_sound() && self.marks(d)
+        match self.settled() {
+            Some(settled) => settled.marks(d),
+            None => false,
+        }
     }
 
     // How many episodes there are.
@@ -384,10 +396,9 @@ impl ClockPairs {
         ensures counts { result ≡ counted (meaning_of self.now) }
         ensures few { result ≤ most_stretches_lem (meaning_of self.now).a (meaning_of self.now).b }
     {
-        if self.is_sound() {
-            in_use(&self.episodes, self.len)
-        } else {
-            0
+        match self.settled() {
+            Some(settled) => settled.count(),
+            None => 0,
         }
     }
 }
