@@ -58,6 +58,12 @@ fn grown(age: u32, n: u32, b: u32) -> u32
     age.saturating_add(n).min(b)
 }
 
+// Content that this kind made, lent to be changed.
+struct SettledMut<'a> {
+    pairs: &'a mut ClockPairs,
+    ghost sound: { sound pairs.now ≡ true },
+}
+
 impl Episode {
     // What a place without an episode holds.
     const VACANT: Episode = Episode { rise: 0, fall: 0 };
@@ -224,32 +230,6 @@ impl ClockPairs {
         ClockPairs::empty(0, 1)
     }
 
-    // Puts an episode behind the others.
-    fn push(&mut self, e: Episode)
-        requires tidy { self.old ≡ holding self.old.a self.old.b (held self.old) }
-        requires room { self.old.len < 32 }
-        ensures { self.new ≡ holding self.old.a self.old.b (held self.old ++ e ∷ []) }
-    {
-        self.episodes[self.len as usize] = e;
-        self.len += 1;
-    }
-
-    // `next` with the episodes from place `from` on behind its own, n ticks on and without those that fell b ticks ago.
-    fn carried(&self, from: u32, n: u32, mut next: ClockPairs) -> ClockPairs
-        requires len { self.now.len ≤ 32 }
-        requires tidy { next ≡ holding next.a next.b (held next) }
-        requires room { length (held next ++ lasting self.now.b n (drop from (held self.now))) ≤ 32 }
-        ensures { result ≡ holding next.a next.b (held next ++ lasting self.now.b n (drop from (held self.now))) }
-    {
-        for i in from as usize..self.len as usize {
-            let e = self.episodes[i].grow(n, self.b);
-            if e.fall < self.b {
-                next.push(e);
-            }
-        }
-        next
-    }
-
     // The window and its episodes, if this kind made the content.
     fn settled(&self) -> Option<Settled<'_>>
         ensures made { MatchOption result (sound self.now ≡ false) (λ _. sound self.now ≡ true) }
@@ -267,34 +247,6 @@ impl ClockPairs {
         }
     }
 
-    // Whether a yes goes on with the newest episode: that fell at most b - a ticks ago, so that the gap is erased.
-    fn goes_on(&self) -> bool
-        requires { self.now.a ≤ self.now.b }
-        ensures { result ≡ goes_on self.now }
-    {
-        self.len > 0 && self.episodes[0].fall <= self.b - self.a
-    }
-
-    // The window with one episode, in which the operand is yes.
-    fn rising(a: u32, b: u32, rise: u32) -> ClockPairs
-        ensures { result ≡ holding a b (episode rise 0 ∷ []) }
-    {
-        let mut next = ClockPairs::empty(a, b);
-        next.push(Episode { rise, fall: 0 });
-        next
-    }
-
-    // The memory after n ticks, n at least 1, at which the operand is yes and a new episode rises.
-    fn after_rise(self, n: u32) -> ClockPairs
-        requires sound { sound self ≡ true }
-        requires ticks { 0 < n }
-        requires new { false ≡ goes_on self }
-        ensures { meaning_of result ≡ took true n (told self.a self.b (held self)) }
-    {
-        let rise = grown(0, n, self.b);
-        self.carried(0, n, ClockPairs::rising(self.a, self.b, rise))
-    }
-
     // The episodes from place `from` on are n ticks on, without those that fell b ticks ago.
     fn grow_old(&mut self, from: u32, n: u32)
         requires { (from ≤ self.old.len) × (self.old.len ≤ 32) }
@@ -307,58 +259,40 @@ impl ClockPairs {
         self.len = age(&mut self.episodes, from, len, n, b);
     }
 
+    // Puts an episode in front of the others.
+    fn put_first(&mut self, e: Episode)
+        requires { self.old.len < 32 }
+        ensures window { (self.new.a ≡ self.old.a) × (self.new.b ≡ self.old.b) }
+        ensures many { self.new.len ≡ self.old.len + 1 }
+        ensures stand { self.new.episodes ≡ (e ∷ held self.old) ++ drop (self.old.len + 1) self.old.episodes }
+    {
+        self.episodes.copy_within(..self.len as usize, 1);
+        self.episodes[0] = e;
+        self.len += 1;
+    }
+
     // Content that this kind did not make gives way to a new memory.
-    fn settle(&mut self)
-        ensures sound { sound self.new ≡ true }
-        ensures means { meaning_of self.old ≡ told self.new.a self.new.b (held self.new) }
+    fn settle(&mut self) -> SettledMut<'_>
+        ensures same { result.pairs.ghost_name ≡ self.entry.ghost_name }
+        ensures means { meaning_of result.pairs.now ≡ meaning_of self.old }
     {
         if self.settled().is_none() {
             *self = ClockPairs::fresh();
         }
-    }
-
-    // Takes n ticks at which the operand is no, or none.
-    fn take_no(&mut self, n: u32)
-        requires { sound self.old ≡ true }
-        ensures { (v : Bool) → (v ≡ false) ⊎ (n ≡ 0) → meaning_of self.new ≡ took v n (told self.old.a self.old.b (held self.old)) }
-    {
-        self.grow_old(0, n);
-    }
-
-    // Takes n ticks, n at least 1, at which the operand is yes and goes on with the newest episode.
-    fn take_on(&mut self, n: u32)
-        requires sound { sound self.old ≡ true }
-        requires ticks { 0 < n }
-        requires on { true ≡ goes_on self.old }
-        ensures { meaning_of self.new ≡ took true n (told self.old.a self.old.b (held self.old)) }
-    {
-        let rise = grown(self.episodes[0].rise, n, self.b);
-        self.episodes[0] = Episode { rise, fall: 0 };
-        self.grow_old(1, n);
-    }
-
-    // Takes n ticks, n at least 1, at which the operand is yes.
-    fn take_yes(&mut self, n: u32)
-        requires sound { sound self.old ≡ true }
-        requires ticks { 0 < n }
-        ensures { meaning_of self.new ≡ took true n (told self.old.a self.old.b (held self.old)) }
-    {
-        if self.goes_on() {
-            self.take_on(n);
-        } else {
-            *self = self.after_rise(n);
-        }
+        SettledMut { pairs: self }
     }
 
     // Takes n ticks at which the operand has this value.
     fn tell(&mut self, operand: bool, n: u32)
         ensures { meaning_of self.new ≡ took operand n (meaning_of self.old) }
     {
-        self.settle();
-        if operand && n > 0 {
-            self.take_yes(n);
+        let settled = self.settle();
+        if !operand || n == 0 {
+            settled.take_no(n);
+        } else if settled.goes_on() {
+            settled.take_on(n);
         } else {
-            self.take_no(n);
+            settled.take_rise(n);
         }
     }
 
@@ -366,8 +300,10 @@ impl ClockPairs {
     fn forget(&mut self)
         ensures { meaning_of self.new ≡ cleared (meaning_of self.old) }
     {
-        self.settle();
-        *self = ClockPairs::empty(self.a, self.b);
+        *self = match self.settled() {
+            Some(settled) => ClockPairs::empty(settled.a, settled.b),
+            None => ClockPairs::fresh(),
+        };
     }
 
     // The reply on the run that begins.
@@ -400,6 +336,48 @@ impl ClockPairs {
             Some(settled) => settled.count(),
             None => 0,
         }
+    }
+}
+
+impl SettledMut<'_> {
+    // Whether a yes goes on with the newest episode: that fell at most b - a ticks ago, so that the gap is erased.
+    fn goes_on(&self) -> bool
+        ensures { result ≡ goes_on self.now.pairs.now }
+    {
+        let pairs = &*self.pairs;
+        pairs.len > 0 && pairs.episodes[0].fall <= pairs.b - pairs.a
+    }
+
+    // Takes n ticks at which the operand is no, or none.
+    fn take_no(self, n: u32)
+        ensures { (v : Bool) → (v ≡ false) ⊎ (n ≡ 0) → meaning_of self.exit.0.now ≡ took v n (meaning_of self.entry.pairs.now) }
+    {
+        let SettledMut { pairs } = self;
+        pairs.grow_old(0, n);
+    }
+
+    // Takes n ticks, n at least 1, at which the operand is yes and goes on with the newest episode.
+    fn take_on(self, n: u32)
+        requires ticks { 0 < n }
+        requires on { true ≡ goes_on self.pairs.now }
+        ensures { meaning_of self.exit.0.now ≡ took true n (meaning_of self.entry.pairs.now) }
+    {
+        let SettledMut { pairs } = self;
+        let rise = grown(pairs.episodes[0].rise, n, pairs.b);
+        pairs.episodes[0] = Episode { rise, fall: 0 };
+        pairs.grow_old(1, n);
+    }
+
+    // Takes n ticks, n at least 1, at which the operand is yes and a new episode rises.
+    fn take_rise(self, n: u32)
+        requires ticks { 0 < n }
+        requires new { false ≡ goes_on self.pairs.now }
+        ensures { meaning_of self.exit.0.now ≡ took true n (meaning_of self.entry.pairs.now) }
+    {
+        let SettledMut { pairs } = self;
+        let rise = grown(0, n, pairs.b);
+        pairs.grow_old(0, n);
+        pairs.put_first(Episode { rise, fall: 0 });
     }
 }
 
