@@ -1,19 +1,18 @@
 -- Content and the episodes that it holds. Assumes nothing.
-use Rattle.std.proofs.Common.{◌≡◌, ℕ, zero, suc, ◌+◌, ◌-◌, ◌<◌, ◌≤◌, true, false, ◌&&◌, ltb, leb, List, [], ◌∷◌, ◌++◌, length, get_or, take, drop, replicate, refl, ap, ◌∙◌, ap₂, arith}
-use Rattle.std.proofs.lemmas.Bool.{cond-true, cond-false, and_from, and_parts, le-leb, leb-true, ltb-true}
+use Rattle.std.proofs.Common.{◌≡◌, ℕ, zero, suc, ◌+◌, ◌<◌, ◌≤◌, true, ◌&&◌, ltb, leb, List, [], ◌∷◌, ◌++◌, length, get_or, take, drop, replicate, refl, ap, ◌∙◌, ap₂, arith}
+use Rattle.std.proofs.lemmas.Bool.{cond-true, and_from, and_parts, le-leb, leb-true, ltb-true}
 use Rattle.std.proofs.lemmas.List.{drop_all, drop_at, drop_more, get_or-take, length-take, length-take-le, take_at}
 use Rattle.mitl.specs.Memory.{new_memory, most_stretches_lem}
 use Rattle.mitl.specs.Windows.{sound_window}
 use Rattle.clock_pairs.specs.declared.Episode.{Episode}
 use Rattle.clock_pairs.specs.declared.ClockPairs.{ClockPairs}
 use Rattle.clock_pairs.specs.Episodes.{served, episode, apart, vacant}
-use Rattle.clock_pairs.specs.Meanings.{held, sound, told, meaning_of, holding}
-use Rattle.clock_pairs.proofs.Order.{Apart, decides_apart, few}
+use Rattle.clock_pairs.specs.Meanings.{held, sound, told, meaning_of}
+use Rattle.clock_pairs.proofs.Order.{Apart, decides_apart, gaps_of, few}
 
 pub record Served (a b : ℕ) : Type 0 where
   pub upto : a ≤ b
   pub some : 0 < b
-  pub day : b ≤ 864000
   pub few : most_stretches_lem a b ≤ 32
 
 pub served_parts : (a b : ℕ) → served a b ≡ true → Served a b
@@ -21,7 +20,7 @@ served_parts a b e =
     let p = and_parts (sound_window a b) (leb (most_stretches_lem a b) 32) e in
     let q = and_parts (ltb a b) (leb b 864000) p.0 in
     let below = ltb-true a b q.0 in
-    record { upto = omega arith; some = omega arith; day = leb-true b 864000 q.1; few = leb-true (most_stretches_lem a b) 32 p.1 }
+    record { upto = omega arith; some = omega arith; few = leb-true (most_stretches_lem a b) 32 p.1 }
 
 pub record Sound (c : ClockPairs) : Type 0 where
   pub window : served c.a c.b ≡ true
@@ -34,35 +33,13 @@ sound_parts c e =
     let p = and_parts (served c.a c.b) (leb c.len 32 && (apart c.a c.b 0 (held c) && vacant (drop c.len c.episodes))) e in
     let q = and_parts (leb c.len 32) (apart c.a c.b 0 (held c) && vacant (drop c.len c.episodes)) p.1 in
     let r = and_parts (apart c.a c.b 0 (held c)) (vacant (drop c.len c.episodes)) q.1 in
-    record { window = p.0; room = leb-true c.len 32 q.0; gaps = (decides_apart c.a c.b 0 (held c)).0 r.0; rest = r.1 }
+    record { window = p.0; room = leb-true c.len 32 q.0; gaps = gaps_of c.a c.b 0 (held c) r.0; rest = r.1 }
 
 pub sound_from : (c : ClockPairs) → served c.a c.b ≡ true → c.len ≤ 32 → Apart c.a c.b 0 (held c) → vacant (drop c.len c.episodes) ≡ true → sound c ≡ true
 sound_from c w l g r = and_from _ _ w (and_from _ _ (le-leb _ _ l) (and_from _ _ ((decides_apart c.a c.b 0 (held c)).1 g) r))
 
 pub when_sound : (c : ClockPairs) → sound c ≡ true → meaning_of c ≡ told c.a c.b (held c)
 when_sound c e = cond-true (sound c) (told c.a c.b (held c)) new_memory e
-
-pub when_not : (c : ClockPairs) → sound c ≡ false → meaning_of c ≡ new_memory
-when_not c e = cond-false (sound c) (told c.a c.b (held c)) new_memory e
-
-vacant_zeros : (n : ℕ) → vacant (replicate n (episode 0 0)) ≡ true
-vacant_zeros zero = refl
-vacant_zeros (suc n) = vacant_zeros n
-
-module _ (a b : ℕ) (es : List Episode) where
-  pub held_holding : held (holding a b es) ≡ es
-  held_holding = take_at es (replicate (32 - length es) (episode 0 0)) (length es) refl
-
-  -- episodes that are apart have room, and make sound content
-  pub holding_sound : served a b ≡ true → Apart a b 0 es → sound (holding a b es) ≡ true
-  holding_sound w g =
-      let s = served_parts a b w in
-      let room : length es ≤ 32 = omega (arith, few a b 0 es g) in
-      sound_from (holding a b es) w room (rw held_holding g)
-      (ap vacant (drop_at es (replicate (32 - length es) (episode 0 0)) (length es) refl) ∙ vacant_zeros (32 - length es))
-
-  pub holding_means : served a b ≡ true → Apart a b 0 es → meaning_of (holding a b es) ≡ told a b es
-  holding_means w g = when_sound (holding a b es) (holding_sound w g) ∙ ap (told a b) held_holding
 
 -- empty places behind empty ones
 pub vacant_after : (k : ℕ) (ys : List Episode) → vacant (replicate k (episode 0 0) ++ ys) ≡ vacant ys

@@ -1,14 +1,19 @@
 -- The verdict ahead by the oldest of some episodes. Assumes nothing.
-use Rattle.std.proofs.Common.{◌≡◌, ℕ, ◌-◌, ◌<◌, ◌≤◌, Bool, true, false, List, [], ◌∷◌, length, Some, None, Option, slice_get, refl, ap, ◌∙◌, subst, arith}
+use Rattle.std.proofs.Common.{◌≡◌, ℕ, ◌-◌, ◌<◌, ◌≤◌, Bool, true, false, List, [], ◌∷◌, length, Some, None, Option, slice_get, refl, ap, ◌∙◌, subst, sym, arith}
 use Rattle.mitl.specs.Memory.{ahead, Lasts}
 use Rattle.clock_pairs.specs.declared.Episode.{Episode}
 use Rattle.clock_pairs.specs.Episodes.{reached}
 use Rattle.clock_pairs.proofs.Order.{Apart}
 use Rattle.clock_pairs.proofs.Ahead.{oldest, not_yet, until, for_ever}
 
--- the verdicts ahead with these episodes, and the reply on them
+-- the reply on the verdicts ahead with these episodes
 abbrev pub Reply : ℕ → ℕ → Bool → List Episode → Bool → Option ℕ → Type 0
-Reply a b v es r n = (ahead a v (reached a b es) 0 ≡ r) × Lasts (ahead a v (reached a b es)) r n
+Reply a b v es r n = Lasts (ahead a v (reached a b es)) r n
+
+-- what lasts holds of the next tick
+pub next : (f : ℕ → Bool) (r : Bool) (n : Option ℕ) → Lasts f r n → r ≡ f 0
+next f r None lasts = sym (lasts 0)
+next f r (Some n) lasts = sym (lasts.1 0 lasts.0)
 
 oldest_at : (e : Episode) (es : List Episode) → slice_get (e ∷ es) (length es) ≡ Some (oldest e es)
 oldest_at e [] = refl

@@ -1,5 +1,6 @@
 -- What a memory means after ticks are taken. Assumes nothing.
 use Rattle.std.proofs.Common.{◌≡◌, ℕ, ◌+◌, ◌-◌, ◌<◌, ◌≤◌, min, Bool, true, false, ◌&&◌, ◌||◌, ◌⊎◌, List, ◌∷◌, sym, refl, ap, ◌∙◌, inl, inr}
+use Rattle.std.proofs.Math.Bool.{or-false}
 use mathlib.Core.Path.{fun_ext}
 use Rattle.mitl.specs.Memory.{Meaning, meets, taken, took}
 use Rattle.clock_pairs.specs.declared.Episode.{Episode}
@@ -19,17 +20,13 @@ module _ (a b : ℕ) (upto : a ≤ b) (es : List Episode) (n : ℕ) where
   takes_none v idle =
       same_marks a b (reached a b (lasting b n es)) (taken a b v n (reached a b es)) (λ d. reached_lasting a b upto n es d ∙ sym (quiet v idle d))
     where
-      or_false : (x : Bool) → (x || false) ≡ x
-      or_false true = refl
-      or_false false = refl
-
       unmet : (v : Bool) (k d : ℕ) → (v ≡ false) ⊎ (k ≡ 0) → (v && meets a b k d) ≡ false
       unmet v k d (inl e) = ap (λ x. x && meets a b k d) e
       unmet true k d (inr e) = ap (λ x. meets a b x d) e
       unmet false k d (inr e) = refl
 
       quiet : (v : Bool) → (v ≡ false) ⊎ (n ≡ 0) → (d : ℕ) → taken a b v n (reached a b es) d ≡ reached a b es (d + n)
-      quiet v idle d = ap (λ x. reached a b es (d + n) || x) (unmet v n d idle) ∙ or_false (reached a b es (d + n))
+      quiet v idle d = ap (λ x. reached a b es (d + n) || x) (unmet v n d idle) ∙ or-false (reached a b es (d + n))
 
   -- yes ticks that begin an episode
   pub takes_new : 0 < n → told a b (episode (min b n) 0 ∷ lasting b n es) ≡ took true n (told a b es)

@@ -149,6 +149,7 @@ fn age(places: &mut [Episode], from: u32, len: u32, n: u32, b: u32) -> u32
     ensures stand { places.new ≡ aged b n from (take len places.old) ++ (replicate (len - result) (episode 0 0) ++ drop len places.old) }
 {
     let mut used = from;
+    // by index: an iterator over the places would not let the earlier ones be written
     for i in from as usize..len as usize {
         let e = places[i].grow(n, b);
         places[i] = Episode::VACANT;
@@ -162,8 +163,7 @@ fn age(places: &mut [Episode], from: u32, len: u32, n: u32, b: u32) -> u32
 
 // The verdict of the next tick and how long it lasts, without an episode.
 fn idle(a: u32, operand: bool) -> (bool, Option<u32>)
-    ensures next { result.0 ≡ ahead a operand (λ _. false) 0 }
-    ensures lasts { Lasts (ahead a operand (λ _. false)) result.0 result.1 }
+    ensures { Lasts (ahead a operand (λ _. false)) result.0 result.1 }
 {
     if !operand {
         (false, None)
@@ -184,8 +184,7 @@ impl Settled<'_> {
 
     // The verdict of the next tick and how long it lasts: the oldest episode tells.
     fn forecast(&self, operand: bool) -> (bool, Option<u32>)
-        ensures next { result.0 ≡ ahead self.now.a operand (reached self.now.a self.now.b self.now.episodes.now) 0 }
-        ensures lasts { Lasts (ahead self.now.a operand (reached self.now.a self.now.b self.now.episodes.now)) result.0 result.1 }
+        ensures { Lasts (ahead self.now.a operand (reached self.now.a self.now.b self.now.episodes.now)) result.0 result.1 }
     {
         let Some(oldest) = self.episodes.last() else {
             return idle(self.a, operand);

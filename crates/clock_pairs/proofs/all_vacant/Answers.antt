@@ -1,5 +1,6 @@
 -- The test of the vacant places. Assumes nothing.
-use Rattle.std.proofs.Common.{◌≡◌, ℕ, Bool, true, false, ◌&&◌, eqb, List, [], ◌∷◌, fold, refl, ap, ◌∙◌, arith, rules, tests, bit_or}
+use Rattle.std.proofs.Common.{◌≡◌, ℕ, ◌&&◌, eqb, List, [], ◌∷◌, fold, sym, ap, ◌∙◌, arith, rules, tests, bit_or}
+use Rattle.std.proofs.Math.Bool.{and-true, and_assoc}
 use lib.Bits.{or_add_and, and_le_l, and_le_r}
 use Rattle.std.proofs.lemmas.Bool.Decides.{nat_tests}
 use Rattle.std.proofs.lemmas.Iterator.{YieldsList-from_slice}
@@ -19,20 +20,12 @@ join_zero x y =
     let right = and_le_r x y in
     grind (arith, nat_tests, sum, left, right)
 
-and_true : (x : Bool) → x ≡ (x && true)
-and_true true = refl
-and_true false = refl
-
-and_assoc : (x y z t : Bool) → (((x && y) && z) && t) ≡ (x && ((y && z) && t))
-and_assoc true y z t = refl
-and_assoc false y z t = refl
-
 folded : (any : ℕ) (es : List Episode) → eqb (fold joined any es) 0 ≡ (eqb any 0 && vacant es)
-folded any [] = and_true (eqb any 0)
+folded any [] = sym (and-true (eqb any 0))
 folded any (e ∷ es) =
     folded (joined any e) es
     ∙ ap (λ t. t && vacant es) (join_zero (bit_or any e.rise) e.fall ∙ ap (λ t. t && eqb e.fall 0) (join_zero any e.rise))
-    ∙ and_assoc (eqb any 0) (eqb e.rise 0) (eqb e.fall 0) (vacant es)
+    ∙ ap (λ t. t && vacant es) (and_assoc (eqb any 0) (eqb e.rise 0) (eqb e.fall 0)) ∙ and_assoc (eqb any 0) (eqb e.rise 0 && eqb e.fall 0) (vacant es)
 
 pub returns : goal.returns
 returns c =

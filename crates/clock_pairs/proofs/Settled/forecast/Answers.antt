@@ -1,7 +1,7 @@
 -- The reply on the run that begins. Assumes nothing.
 use Rattle.std.proofs.Common.{◌≡◌, ◌-◌, ◌<◌, true, false, Some, sym, subst, arith}
 use Rattle.std.proofs.lemmas.Bool.{both_ways}
-use Rattle.clock_pairs.proofs.Order.{decides_apart}
+use Rattle.clock_pairs.proofs.Order.{gaps_of}
 use Rattle.clock_pairs.proofs.Hold.{served_parts}
 use Rattle.clock_pairs.proofs.Oldest.{Reply, replies_not_yet, replies_until, replies_for_ever}
 use Rattle.clock_pairs.proofs.Settled.forecast.Goals as goal
@@ -13,17 +13,15 @@ returns-then-start-gt0 c =
     let es = m.episodes.now in
     let v = c.args.operand in
     let o = c.in-Some.oldest.now in
-    let r = subst (λ n. Reply m.a m.b v es false (Some n)) (sym c.start-start.ensures)
-    (replies_not_yet m.a m.b (served_parts m.a m.b m.window).upto v es o c.in-Some.ensures.value ((decides_apart m.a m.b 0 es).0 m.gaps) (omega arith)) in
-    record { next = sym r.0; lasts = r.1 }
+    subst (λ n. Reply m.a m.b v es false (Some n)) (sym c.start-start.ensures)
+    (replies_not_yet m.a m.b (served_parts m.a m.b m.window).upto v es o c.in-Some.ensures.value (gaps_of m.a m.b 0 es m.gaps) (omega arith))
 
 pub returns-then-self-end : goal.returns-then-self-end
 returns-then-self-end c =
     let m = c.args.self.now in
     let es = m.episodes.now in
     let o = c.in-Some.oldest.now in
-    let r = replies_for_ever m.a m.b (served_parts m.a m.b m.window).upto c.args.operand es o c.in-Some.ensures.value ((decides_apart m.a m.b 0 es).0 m.gaps) (omega arith) c.if-operand.true (omega arith) in
-    record { next = sym r.0; lasts = r.1 }
+    replies_for_ever m.a m.b (served_parts m.a m.b m.window).upto c.args.operand es o c.in-Some.ensures.value (gaps_of m.a m.b 0 es m.gaps) (omega arith) c.if-operand.true (omega arith)
 
 pub returns-else-operand : goal.returns-else-operand
 returns-else-operand c =
@@ -37,6 +35,5 @@ returns-else-operand c =
       | else-operand-via-then-operand+else-self-end w ↦ omega (arith, w.if-self-end.false)
       | else-operand-via-else-operand w ↦ absurd (both_ways v w.if-operand.false on)
     ] in
-    let r = subst (λ n. Reply m.a m.b v es true (Some n)) (sym end)
-    (replies_until m.a m.b (served_parts m.a m.b m.window).upto v es o c.in-Some.ensures.value ((decides_apart m.a m.b 0 es).0 m.gaps) (omega arith) short) in
-    record { next = sym r.0; lasts = r.1 }
+    subst (λ n. Reply m.a m.b v es true (Some n)) (sym end)
+    (replies_until m.a m.b (served_parts m.a m.b m.window).upto v es o c.in-Some.ensures.value (gaps_of m.a m.b 0 es m.gaps) (omega arith) short)

@@ -1,5 +1,6 @@
 -- Ticks at which the operand is yes and goes on with the newest episode. Assumes nothing.
 use Rattle.std.proofs.Common.{◌≡◌, ℕ, zero, suc, ◌+◌, ◌-◌, ◌<◌, min, true, List, [], ◌∷◌, ◌++◌, length, take, drop, set, replicate, sym, refl, ap, ◌∙◌, subst, arith, rules}
+use Rattle.std.proofs.lemmas.List.{drop-set-lt}
 use Rattle.mitl.specs.Memory.{took}
 use Rattle.clock_pairs.specs.declared.Episode.{Episode}
 use Rattle.clock_pairs.specs.declared.ClockPairs.{ClockPairs}
@@ -16,11 +17,6 @@ replaced b n zero xs e lt some = absurd (omega arith)
 replaced b n (suc k) [] e lt some = absurd (omega arith)
 replaced b n (suc k) (x ∷ xs) e lt some = refl
 
-behind_it : (k : ℕ) (xs : List Episode) (e : Episode) → 0 < k → drop k (set xs 0 e) ≡ drop k xs
-behind_it zero xs e lt = absurd (omega arith)
-behind_it (suc k) [] e lt = refl
-behind_it (suc k) (x ∷ xs) e lt = refl
-
 -- the newest episode goes on, and the others are n ticks on
 gone_on : (m then : ClockPairs) (n : ℕ) (e : Episode) → length m.episodes ≡ 32 → sound m ≡ true → 0 < m.len → e ≡ episode (min m.b ((newest m).rise + n)) 0 → then.a ≡ m.a → then.b ≡ m.b
     → then.len ≡ length (aged m.b n 1 (take m.len (set m.episodes 0 e)))
@@ -34,7 +30,7 @@ gone_on m then n e full is some rise ea eb size stand =
     let back = drop m.len (set m.episodes 0 e) in
     let zs = replicate (m.len - then.len) (episode 0 0) ++ back in
     holds then m.a m.b (episode (min m.b ((newest m).rise + n)) 0 ∷ lasting m.b n rest) zs ea eb (size ∙ ap length was) (stand ∙ ap (λ xs. xs ++ zs) was)
-    (vacant_after (m.len - then.len) back ∙ ap vacant (behind_it m.len m.episodes e some) ∙ s.rest) s.window gaps
+    (vacant_after (m.len - then.len) back ∙ ap vacant (drop-set-lt m.len m.episodes 0 e some) ∙ s.rest) s.window gaps
 
 pub grow_old-requires : goal.grow_old-requires
 grow_old-requires c =
