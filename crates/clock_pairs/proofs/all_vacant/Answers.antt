@@ -1,10 +1,8 @@
 -- The test of the vacant places. Assumes nothing.
-use Rattle.std.proofs.Common.{◌≡◌, ℕ, ◌&&◌, eqb, List, [], ◌∷◌, fold, sym, ap, ◌∙◌, arith, rules, tests, bit_or}
+use Rattle.std.proofs.Common.{◌≡◌, ℕ, ◌&&◌, eqb, List, [], ◌∷◌, fold, sym, ap, ◌∙◌, arith, rules, bit_or}
 use Rattle.std.proofs.Math.Bool.{and-true, and_assoc}
 use lib.Bits.{or_add_and, and_le_l, and_le_r}
 use Rattle.std.proofs.lemmas.Bool.Decides.{nat_tests}
-use Rattle.std.proofs.lemmas.Iterator.{YieldsList-from_slice}
-use Rattle.std.proofs.lemmas.Iterator.Consumers.{fold_from_yields_List}
 use Rattle.clock_pairs.specs.declared.Episode.{Episode}
 use Rattle.clock_pairs.specs.Episodes.{vacant}
 use Rattle.clock_pairs.proofs.all_vacant.Goals as goal
@@ -29,5 +27,5 @@ folded any (e ∷ es) =
 
 pub returns : goal.returns
 returns c =
-    ap (λ n. eqb n 0) (fold_from_yields_List _ joined 0 c.fold.result c.fold.ensures.ran (YieldsList-from_slice c.args.places.now cc) (λ n x r q k. search (rules, tests)))
-    ∙ folded 0 c.args.places.now
+    let all : c.fold.result ≡ fold joined 0 c.args.places.now = search rules in
+    ap (λ n. eqb n 0) all ∙ folded 0 c.args.places.now

@@ -42,8 +42,10 @@ invariant_of-self c =
     let m = c.args.self.pairs.now in
     let out = c.grow_old.ensures in
     let more = c.put_first.ensures in
-    record { sound = (risen m c.grow_old.new.self c.put_first.new.self c.args.n c.grown-rise.result c.args.self.sound c.requires.ticks c.requires.new c.grown-rise.ensures
-    out.window.0 out.window.1 out.many out.stand more.window.0 more.window.1 more.many more.stand).is_sound }
+    record {
+      sound = (risen m c.grow_old.new.self c.put_first.new.self c.args.n c.grown-rise.result c.args.self.sound c.requires.ticks c.requires.new c.grown-rise.ensures
+          out.window.0 out.window.1 out.many out.stand more.window.0 more.window.1 more.many more.stand).is_sound;
+    }
 
 pub returns : goal.returns
 returns c =
