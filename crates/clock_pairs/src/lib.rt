@@ -30,6 +30,14 @@ struct Episode {
     fall: u32,
 }
 
+// A served window, from a to b.
+#[derive(Clone, Copy)]
+struct Window {
+    a: u32,
+    b: u32,
+    ghost is_served: { served a b ≡ true },
+}
+
 // A window from a to b and its episodes.
 #[derive(Clone, Copy)]
 pub struct ClockPairs {
@@ -44,11 +52,9 @@ pub struct ClockPairs {
 // Content that this kind made, lent for reading: a served window and its episodes, newest first.
 #[derive(Clone, Copy)]
 struct Settled<'a> {
-    a: u32,
-    b: u32,
+    window: Window,
     episodes: &'a [Episode],
-    ghost window: { served a b ≡ true },
-    ghost gaps: { apart a b 0 episodes.now ≡ true },
+    ghost gaps: { apart window.a window.b 0 episodes.now ≡ true },
 }
 
 // An age n ticks on: once it has reached b it stays at b.
@@ -93,10 +99,10 @@ impl Episode {
     }
 
     // Whether the tick d ahead is within its reach.
-    fn reaches(self, a: u32, b: u32, d: u32) -> bool
-        ensures { result ≡ covers a b self d }
+    fn reaches(self, window: Window, d: u32) -> bool
+        ensures { result ≡ covers window.a window.b self d }
     {
-        self.start(a) <= d && d < self.end(b)
+        self.start(window.a) <= d && d < self.end(window.b)
     }
 }
 
@@ -124,21 +130,6 @@ fn all_vacant(places: &[Episode]) -> bool
         .iter()
         .fold(0, |any, place| any | place.rise | place.fall)
         == 0
-}
-
-// Whether the episodes are newest first, none older than b, with gaps longer than b - a ticks.
-fn in_order(a: u32, b: u32, episodes: &[Episode]) -> bool
-    requires { (a ≤ b) × (b ≤ 864000) }
-    ensures { result ≡ apart a b 0 episodes.now }
-{
-    let mut low = 0;
-    for e in episodes {
-        if e.fall < low || e.rise <= e.fall || b < e.rise {
-            return false;
-        }
-        low = e.rise + (b - a) + 1;
-    }
-    true
 }
 
 // The episodes in the first `len` places, from place `from` on, n ticks on where they stand and without those that fell
@@ -174,26 +165,53 @@ fn idle(a: u32, operand: bool) -> (bool, Option<u32>)
     }
 }
 
+impl Window {
+    // The window from a to b, if it is served.
+    fn new(a: u32, b: u32) -> Option<Window>
+        ensures { MatchOption result (served a b ≡ false) (λ w. (served a b ≡ true) × (w.a ≡ a) × (w.b ≡ b)) }
+    {
+        if serves(a, b) {
+            Some(Window { a, b })
+        } else {
+            None
+        }
+    }
+
+    // Whether the episodes are newest first, none older than b, with gaps longer than b - a ticks.
+    fn orders(self, episodes: &[Episode]) -> bool
+        ensures { result ≡ apart self.a self.b 0 episodes.now }
+    {
+        let mut low = 0;
+        for e in episodes {
+            if e.fall < low || e.rise <= e.fall || self.b < e.rise {
+                return false;
+            }
+            low = e.rise + (self.b - self.a) + 1;
+        }
+        true
+    }
+}
+
 impl Settled<'_> {
     // Whether an episode reaches the tick d ahead.
     fn marks(&self, d: u32) -> bool
-        ensures { result ≡ reached self.now.a self.now.b self.now.episodes.now d }
+        ensures { result ≡ reached self.now.window.a self.now.window.b self.now.episodes.now d }
     {
-        self.episodes.iter().any(|e| e.reaches(self.a, self.b, d))
+        self.episodes.iter().any(|e| e.reaches(self.window, d))
     }
 
     // The verdict of the next tick and how long it lasts: the oldest episode tells.
     fn forecast(&self, operand: bool) -> (bool, Option<u32>)
-        ensures { Lasts (ahead self.now.a operand (reached self.now.a self.now.b self.now.episodes.now)) result.0 result.1 }
+        ensures { Lasts (ahead self.now.window.a operand (reached self.now.window.a self.now.window.b self.now.episodes.now)) result.0 result.1 }
     {
         let Some(oldest) = self.episodes.last() else {
-            return idle(self.a, operand);
+            return idle(self.window.a, operand);
         };
-        let start = oldest.start(self.a);
-        let end = oldest.end(self.b);
+        let start = oldest.start(self.window.a);
+        let end = oldest.end(self.window.b);
         if start > 0 {
             (false, Some(start))
-        } else if operand && self.a <= end {
+        } else if operand && self.window.a <= end {
             (true, None)
         } else {
             (true, Some(end))
@@ -202,21 +220,21 @@ impl Settled<'_> {
 
     // How many episodes there are.
     fn count(&self) -> u32
-        ensures counts { result ≡ counted (told self.now.a self.now.b self.now.episodes.now) }
-        ensures few { result ≤ most_stretches_lem self.now.a self.now.b }
+        ensures counts { result ≡ counted (told self.now.window.a self.now.window.b self.now.episodes.now) }
+        ensures few { result ≤ most_stretches_lem self.now.window.a self.now.window.b }
     {
         self.episodes.len() as u32
     }
 }
 
 impl ClockPairs {
-    // The window from a to b without an episode.
-    fn empty(a: u32, b: u32) -> ClockPairs
-        ensures { result ≡ holding a b [] }
+    // The window without an episode.
+    fn empty(window: Window) -> ClockPairs
+        ensures { result ≡ holding window.a window.b [] }
     {
         ClockPairs {
-            a,
-            b,
+            a: window.a,
+            b: window.b,
             len: 0,
             episodes: [Episode::VACANT; MOST],
         }
@@ -226,21 +244,18 @@ impl ClockPairs {
     fn fresh() -> ClockPairs
         ensures { result ≡ holding 0 1 [] }
     {
-        ClockPairs::empty(0, 1)
+        ClockPairs::empty(Window { a: 0, b: 1 })
     }
 
     // The window and its episodes, if this kind made the content.
     fn settled(&self) -> Option<Settled<'_>>
         ensures made { MatchOption result (sound self.now ≡ false) (λ _. sound self.now ≡ true) }
-        ensures means { IfSome result (λ s. meaning_of self.now ≡ told s.a s.b s.episodes.now) }
+        ensures means { IfSome result (λ s. meaning_of self.now ≡ told s.window.a s.window.b s.episodes.now) }
     {
+        let window = Window::new(self.a, self.b)?;
         let (episodes, rest) = self.episodes.split_at_checked(self.len as usize)?;
-        if serves(self.a, self.b) && in_order(self.a, self.b, episodes) && all_vacant(rest) {
-            Some(Settled {
-                a: self.a,
-                b: self.b,
-                episodes,
-            })
+        if window.orders(episodes) && all_vacant(rest) {
+            Some(Settled { window, episodes })
         } else {
             None
         }
@@ -300,7 +315,7 @@ impl ClockPairs {
         ensures { meaning_of self.new ≡ cleared (meaning_of self.old) }
     {
         *self = match self.settled() {
-            Some(settled) => ClockPairs::empty(settled.a, settled.b),
+            Some(settled) => ClockPairs::empty(settled.window),
             None => ClockPairs::fresh(),
         };
     }
@@ -402,12 +417,11 @@ impl WindowMemory for ClockPairs {
     }
 
     fn prepare(&mut self, a: u32, b: u32) -> bool {
-        if serves(a, b) {
-            *self = ClockPairs::empty(a, b);
-            true
-        } else {
-            false
-        }
+        let Some(window) = Window::new(a, b) else {
+            return false;
+        };
+        *self = ClockPairs::empty(window);
+        true
     }
 
     fn clear(&mut self) {

@@ -10,5 +10,6 @@ use Rattle.clock_pairs.proofs.Settled.marks.Goals as goal
 pub returns : goal.returns
 returns c =
     let m = c.args.self.now in
-    any_from_yields_List (λ e. covers m.a m.b e c.args.d) _ _ _ c.any.ensures.ran (YieldsList-from_slice m.episodes.now cc) (λ x b q k. search (rules, tests))
-    ∙ same_from_clauses (list_any (λ e. covers m.a m.b e c.args.d)) (λ es. reached m.a m.b es c.args.d) (λ e t. covers m.a m.b e c.args.d || t) refl (λ _ _. refl) (λ _ _. refl) m.episodes.now
+    let w = m.window in
+    any_from_yields_List (λ e. covers w.a w.b e c.args.d) _ _ _ c.any.ensures.ran (YieldsList-from_slice m.episodes.now cc) (λ x b q k. search (rules, tests))
+    ∙ same_from_clauses (list_any (λ e. covers w.a w.b e c.args.d)) (λ es. reached w.a w.b es c.args.d) (λ e t. covers w.a w.b e c.args.d || t) refl (λ _ _. refl) (λ _ _. refl) m.episodes.now
