@@ -57,17 +57,18 @@ struct Settled<'a> {
     ghost gaps: { apart window.a window.b 0 episodes.now ≡ true },
 }
 
+// Content that this kind made, lent to be changed.
+#[derive(Drop)]
+struct SettledMut<'a> {
+    pairs: &'a mut ClockPairs,
+    ghost sound: { sound pairs.now ≡ true },
+}
+
 // An age n ticks on: once it has reached b it stays at b.
 fn grown(age: u32, n: u32, b: u32) -> u32
     ensures { result ≡ min b (age + n) }
 {
     age.saturating_add(n).min(b)
-}
-
-// Content that this kind made, lent to be changed.
-struct SettledMut<'a> {
-    pairs: &'a mut ClockPairs,
-    ghost sound: { sound pairs.now ≡ true },
 }
 
 impl Episode {
