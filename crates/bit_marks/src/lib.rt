@@ -12,7 +12,7 @@ ghost use Rattle.bit_marks.specs.Means.{marks_within};
 ghost use Rattle.std.proofs.Common.{rules};
 
 use window::{Admission, WindowMemory};
-use words::{WORDS, advanced, all_below, mark, stretch_count};
+use words::Marks;
 
 mod words;
 
@@ -24,7 +24,7 @@ const LIMIT: u32 = 1_000;
 pub struct BitMarks {
     a: u32,
     b: u32,
-    words: [u64; WORDS],
+    marks: Marks,
 }
 
 // Whether this kind has marks enough for the window from a to b.
@@ -48,8 +48,11 @@ impl BitMarks {
         ensures sound { sound result ≡ true }
         ensures means { meaning_of result ≡ clean a b }
     {
-        let words = [0; WORDS];
-        BitMarks { a, b, words }
+        BitMarks {
+            a,
+            b,
+            marks: Marks::NONE,
+        }
     }
 
     // A new memory.
@@ -65,7 +68,7 @@ impl BitMarks {
         ensures sound { sound result ≡ true }
         ensures means { meaning_of result ≡ meaning_of self }
     {
-        if serves(self.a, self.b) && all_below(&self.words, self.b as usize) {
+        if serves(self.a, self.b) && self.marks.all_below(self.b as usize) {
             self
         } else {
             BitMarks::fresh()
@@ -80,22 +83,22 @@ impl BitMarks {
         // the marks from a - n on and below b are within reach of the ticks taken
         let first = self.a.saturating_sub(n) as usize;
         let end = set_end(self.b, operand, n) as usize;
-        let words = advanced(&self.words, self.b as usize, n as usize, first, end);
-        BitMarks { words, ..self }
+        let marks = self.marks.advanced(self.b as usize, n, first, end);
+        BitMarks { marks, ..self }
     }
 
     // The verdict d ticks ahead, if the operand stays as it is.
     fn verdict(&self, operand: bool, d: u32) -> bool
-        ensures { result ≡ ahead self.now.a operand (marked self.now.words) d }
+        ensures { result ≡ ahead self.now.a operand (marked self.now.marks.words) d }
     {
-        mark(&self.words, d as usize) || operand && self.a <= d
+        self.marks.mark(d as usize) || operand && self.a <= d
     }
 
     // The verdict of the next tick and how long it lasts: from tick b on it is the operand.
     fn forecast(&self, operand: bool) -> (bool, Option<u32>)
         requires { sound self.now ≡ true }
-        ensures next { result.0 ≡ ahead self.now.a operand (marked self.now.words) 0 }
-        ensures lasts { Lasts (ahead self.now.a operand (marked self.now.words)) result.0 result.1 }
+        ensures next { result.0 ≡ ahead self.now.a operand (marked self.now.marks.words) 0 }
+        ensures lasts { Lasts (ahead self.now.a operand (marked self.now.marks.words)) result.0 result.1 }
     {
         let next = self.verdict(operand, 0);
         for d in 1..self.b + 1 {
@@ -143,7 +146,7 @@ impl WindowMemory for BitMarks {
     }
 
     fn look(&self, d: u32) -> bool {
-        mark(&self.settled().words, d as usize)
+        self.settled().marks.mark(d as usize)
     }
 
     fn take(&mut self, operand: bool, n: u32) {
@@ -156,6 +159,6 @@ impl WindowMemory for BitMarks {
 
     fn count(&self) -> u32 {
         let m = self.settled();
-        stretch_count(&m.words, m.b as usize)
+        m.marks.stretch_count(m.b as usize)
     }
 }

@@ -5,4 +5,4 @@ use Rattle.bit_marks.specs.Marks.{marked}
 use Rattle.bit_marks.proofs.BitMarks.forecast.Given as goal
 
 abbrev pub invariant-loop-d : goal.invariant-loop-d
-invariant-loop-d l = (k : ℕ) → k < l.d → ahead l.self.a l.operand (marked l.self.words) k ≡ l.next
+invariant-loop-d l = (k : ℕ) → k < l.d → ahead l.self.a l.operand (marked l.self.marks.words) k ≡ l.next

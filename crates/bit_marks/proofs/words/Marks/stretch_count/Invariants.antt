@@ -2,7 +2,7 @@
 use Rattle.std.proofs.Common.{◌≡◌, ◌*◌, ◌≤◌}
 use Rattle.mitl.specs.Memory.{stretches}
 use Rattle.bit_marks.specs.Marks.{marked}
-use Rattle.bit_marks.proofs.words.stretch_count.Given as goal
+use Rattle.bit_marks.proofs.words.Marks.stretch_count.Given as goal
 
 abbrev pub invariant-loop-at : goal.invariant-loop-at
-invariant-loop-at l = (l.count ≡ stretches (marked l.words) (64 * l.at)) × (l.count ≤ 64 * l.at)
+invariant-loop-at l = (l.count ≡ stretches (marked l.self.words) (64 * l.at)) × (l.count ≤ 64 * l.at)
