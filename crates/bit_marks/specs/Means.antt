@@ -15,6 +15,7 @@ pub when_sound : (m : BitMarks) → sound m ≡ true → meaning_of m ≡ told m
 when_sound m e = cond-true (sound m) (told m) new_memory e
 
 pub record Parts (m : BitMarks) : Type 0 where
+  pub admitted : served m.a m.b ≡ true
   pub order : m.a < m.b
   pub small : m.b ≤ 1000
   pub within : ends_by m.b m.marks.words ≡ true
@@ -25,7 +26,7 @@ parts m e =
     let p = and_parts (served m.a m.b) (ends_by m.b m.marks.words) e in
     let q = and_parts (sound_window m.a m.b) (nat_le m.b 1000) p.0 in
     let s = and_parts (nat_lt m.a m.b) (nat_le m.b 864000) q.0 in
-    record { order = ltb-true _ _ s.0; small = leb-true _ _ q.1; within = p.1; none = (ends_decided m.b m.marks.words).0 p.1 }
+    record { admitted = p.0; order = ltb-true _ _ s.0; small = leb-true _ _ q.1; within = p.1; none = (ends_decided m.b m.marks.words).0 p.1 }
 
 -- past the marks there is no yes
 pub marks_within : (m : BitMarks) (d : ℕ) → (meaning_of m).b ≤ d → (meaning_of m).mark d ≡ false

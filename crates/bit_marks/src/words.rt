@@ -1,8 +1,10 @@
 //! Marks in words: mark d is bit d % 64 of word d / 64, bit 0 being the least.
-ghost use Rattle.std.specs.Prelude.{◌≡◌, ℕ, ◌+◌, ◌-◌, ◌*◌, ◌^◌, ◌<◌, ◌≤◌, true, false, not, ◌&&◌, ◌||◌, if◌then◌else◌, nat_le, nat_lt, slice_index};
+ghost use Rattle.std.specs.Prelude.{◌≡◌, ℕ, ◌+◌, ◌-◌, ◌*◌, ◌/◌, ◌^◌, ◌<◌, ◌≤◌, false, not, ◌&&◌, ◌||◌, if◌then◌else◌, Decides, nat_le, nat_lt, slice_index};
 ghost use Rattle.mitl.specs.Formulas.{bit};
 ghost use Rattle.mitl.specs.Memory.{stretches};
 ghost use Rattle.bit_marks.specs.Marks.{marked, ends_by};
+
+use std::array;
 
 // Enough for a thousand marks.
 const WORDS: usize = 16;
@@ -10,7 +12,7 @@ const WORDS: usize = 16;
 // Marks, of which those beyond the words are no.
 #[derive(Clone, Copy)]
 pub(crate) struct Marks {
-    pub(crate) words: [u64; WORDS],
+    words: [u64; WORDS],
 }
 
 impl Marks {
@@ -31,24 +33,28 @@ impl Marks {
         has(self.word_at(d / 64), d % 64)
     }
 
-    // The 64 marks from mark d on, as a word.
-    fn from_mark(&self, d: usize) -> u64
-        ensures { (k : ℕ) → k < 64 → bit k result ≡ marked self.now.words (d + k) }
+    // Whether no mark of word `at` from mark b on is set.
+    fn none_of_word(&self, b: usize, at: usize) -> bool
+        requires { at < 16 }
+        ensures { Decides result ((d : ℕ) → b ≤ d → d / 64 ≡ at → marked self.now.words d ≡ false) }
     {
-        let at = d / 64;
-        joined(self.word_at(at), self.word_at(at + 1), d % 64)
+        self.word_at(at) & !below(b, at) == 0
     }
 
     // Whether no mark from b on is set.
     pub(crate) fn all_below(&self, b: usize) -> bool
         ensures { result ≡ ends_by b self.now.words }
     {
-        for at in b / 64..WORDS {
-            if self.word_at(at) & !below(b, at) != 0 {
-                return false;
-            }
-        }
-        true
+        (b / 64..WORDS).all(|at| self.none_of_word(b, at))
+    }
+
+    // The 64 marks from place `by` of word `at` on, as a word.
+    fn from_place(&self, at: usize, by: usize) -> u64
+        requires near { at < 2 ^ 32 }
+        requires inside { by < 64 }
+        ensures { (k : ℕ) → k < 64 → bit k result ≡ marked self.now.words (64 * at + by + k) }
+    {
+        joined(self.word_at(at), self.word_at(at + 1), by)
     }
 
     // Word `at` of the marks moved down by n places.
@@ -56,21 +62,32 @@ impl Marks {
         requires { at < 16 }
         ensures { (k : ℕ) → k < 64 → bit k result ≡ marked self.now.words (64 * at + n + k) }
     {
-        self.from_mark(64 * at + n as usize)
+        self.from_place(at + n as usize / 64, n as usize % 64)
     }
 
-    // Of marks below b: these moved down by n places, and the marks from `first` on and below `end` set.
-    pub(crate) fn advanced(&self, b: usize, n: u32, first: usize, end: usize) -> Marks
-        requires few { b ≤ 1000 }
-        requires within { ends_by b self.now.words ≡ true }
-        requires inside { end ≤ b }
-        ensures { (d : ℕ) → marked result.words d ≡ (marked self.now.words (d + n) || (nat_le first d && nat_lt d end)) }
+    // Word `at` of the marks moved down by n places, where those from `first` on and below `end` are set too.
+    fn advanced_word(&self, n: u32, first: usize, end: usize, at: usize) -> u64
+        requires { at < 16 }
+        ensures { (k : ℕ) → k < 64 → bit k result ≡ (marked self.now.words (64 * at + k + n) || (nat_le first (64 * at + k) && nat_lt (64 * at + k) end)) }
     {
-        let mut after = [0; WORDS];
-        for at in 0..words_for(b) {
-            after[at] = self.moved(n, at) | between(first, end, at);
-        }
-        Marks { words: after }
+        self.moved(n, at) | between(first, end, at)
+    }
+
+    // The marks moved down by n places, those from `first` on and below `end` set too, in the first `count` words; past
+    // these all marks are no.
+    pub(crate) fn advanced(&self, count: usize, n: u32, first: usize, end: usize) -> Marks
+        requires { count ≤ 16 }
+        ensures kept { (d : ℕ) → d < 64 * count → marked result.words d ≡ (marked self.now.words (d + n) || (nat_le first d && nat_lt d end)) }
+        ensures none { (d : ℕ) → 64 * count ≤ d → marked result.words d ≡ false }
+    {
+        let words = array::from_fn(|at| {
+            if at < count {
+                self.advanced_word(n, first, end, at)
+            } else {
+                0
+            }
+        });
+        Marks { words }
     }
 
     // Word `at` with the bits of the marks that end a stretch: they are yes, and the next is no.
@@ -81,17 +98,21 @@ impl Marks {
         self.word_at(at) & !self.moved(1, at)
     }
 
-    // Of marks below b: how many unbroken stretches of yes they have.
-    pub(crate) fn stretch_count(&self, b: usize) -> u32
-        requires few { b ≤ 1000 }
-        requires within { ends_by b self.now.words ≡ true }
-        ensures { result ≡ stretches (marked self.now.words) b }
+    // How many unbroken stretches of yes end in word `at`.
+    fn stretches_in(&self, at: usize) -> u32
+        requires { at < 16 }
+        ensures value { result ≡ stretches (marked self.now.words) (64 * at + 64) - stretches (marked self.now.words) (64 * at) }
+        ensures few { result ≤ 64 }
     {
-        let mut count = 0;
-        for at in 0..words_for(b) {
-            count += self.ends(at).count_ones();
-        }
-        count
+        self.ends(at).count_ones()
+    }
+
+    // How many unbroken stretches of yes end in the first `count` words.
+    pub(crate) fn stretch_count(&self, count: usize) -> u32
+        requires { count ≤ 16 }
+        ensures { result ≡ stretches (marked self.now.words) (64 * count) }
+    {
+        (0..count).map(|at| self.stretches_in(at)).sum()
     }
 }
 
@@ -134,13 +155,4 @@ fn joined(low: u64, high: u64, by: usize) -> u64
     } else {
         (low >> by) | (high << (64 - by))
     }
-}
-
-// How many words hold the marks below b.
-fn words_for(b: usize) -> usize
-    requires { b ≤ 1000 }
-    ensures enough { b ≤ 64 * result }
-    ensures within { result ≤ 16 }
-{
-    b.div_ceil(64)
 }

@@ -1,35 +1,35 @@
 -- Word by word the marks are moved and set. Assumes nothing.
-use Rattle.std.proofs.Common.{◌≡◌, ℕ, ◌+◌, ◌*◌, ◌/◌, ◌%◌, ◌<◌, ◌≤◌, ◌&&◌, ◌||◌, ltb, leb, ◌≢◌, length, sym, refl, ap, ◌∙◌, ap₂, ⊎_elim, arith, length-set}
-use lib.Bits.{bit_or}
-use Rattle.std.proofs.lemmas.List.{get_or-set_other}
-use Rattle.std.proofs.lemmas.Bool.{cases_lt, or_from, and_right, le-ltb}
+use Rattle.std.proofs.Common.{◌≡◌, ℕ, zero, suc, ◌+◌, ◌*◌, ◌/◌, ◌%◌, ◌<◌, ◌≤◌, ◌&&◌, ◌||◌, ltb, leb, List, get_or, sym, subst, ap, ◌∙◌, ⊎_elim, arith, rules, tests}
+use Rattle.std.specs.Fn.{Called}
+use Rattle.std.specs.Array.{IsFromFnResultFrom}
+use denote.Param.Members.{Mut}
+use Rattle.std.proofs.lemmas.Bool.{cases_lt}
 use Rattle.bit_marks.specs.Marks.{marked}
 use Rattle.mitl.specs.Formulas.{bit}
-use Rattle.bit_marks.specs.Bits.{or_bit, zero_bit}
-use Rattle.bit_marks.specs.Places.{zeros, set_more, ends_decided}
+use Rattle.bit_marks.specs.Bits.{zero_bit}
+use Rattle.bit_marks.specs.Places.{past_words}
 use Rattle.bit_marks.proofs.words.Marks.advanced.Goals as goal
 
-pub loop-at-init : goal.loop-at-init
-loop-at-init c = (refl, λ d h. absurd (omega arith), λ i h. zeros 16 i)
-
-pub loop-at-preserved : goal.loop-at-preserved
-loop-at-preserved c =
-    let i : ℕ = c.loop-at.at in
-    let short : i < length c.loop-at.after = omega arith in (
-      simp length-set c.loop-at.invariant.0,
-      set_more c.loop-at.after i (bit_or c.moved.result c.between.result) (λ d. marked c.args.self.now.words (d + c.args.n) || (leb c.args.first d && ltb d c.args.end)) short c.loop-at.invariant.1
-          (λ k h.
-          let e : 64 * i + c.args.n + k ≡ 64 * i + k + c.args.n = omega arith in
-          or_bit k c.moved.result c.between.result ∙ ap₂ ◌||◌ (c.moved.ensures k h ∙ ap (marked c.args.self.now.words) e) (c.between.ensures k h)),
-      λ j h. let other : j ≢ i = omega arith in get_or-set_other c.loop-at.after i j _ 0 other ∙ c.loop-at.invariant.2 j (omega arith),
-    )
+-- where calls leave the closure as it is, each number is what it gives at its index
+each_call : {F : Type 0} {g : Mut F (ℕ × Unit {0}) ℕ} {f : F} {P : ℕ → ℕ → Type 0} → ((i y : ℕ) (q : F) → Called g f (i, tt) y q → (q ≡ f) × P i y)
+    → (ys : List ℕ) (n i : ℕ) → IsFromFnResultFrom g f ys i n → (j : ℕ) → i ≤ j → j < i + n → P j (get_or ys j 0)
+each_call gives ys zero i calls j h l = absurd (omega arith)
+each_call {g = g} {f = f} {P = P} gives ys (suc n) i calls j h l =
+    let here = gives i calls.1 calls.0 calls.3 in
+    ⊎_elim
+    (λ (e : j < i + 1). let same : i ≡ j = omega arith in subst (λ m. P m (get_or ys m 0)) same (subst (P i) (sym (calls.2.1 0)) here.1))
+    (λ (e : i + 1 ≤ j). each_call gives ys n (i + 1) (subst (λ q. IsFromFnResultFrom g q ys (i + 1) n) here.0 calls.4) j e (omega arith)) (cases_lt j (i + 1))
 
 pub returns : goal.returns
-returns c d = ⊎_elim (c.loop-at.invariant.1 d) beyond (cases_lt d (64 * c.loop-at.at))
-  where
-    beyond : 64 * c.loop-at.at ≤ d → marked c.loop-at.after d ≡ (marked c.args.self.now.words (d + c.args.n) || (leb c.args.first d && ltb d c.args.end))
-    beyond h =
-        ap (bit (d % 64)) (c.loop-at.invariant.2 (d / 64) (omega arith)) ∙ zero_bit (d % 64)
-        ∙ sym (or_from (marked c.args.self.now.words (d + c.args.n)) (leb c.args.first d && ltb d c.args.end)
-        ((ends_decided c.args.b c.args.self.now.words).0 c.requires.within (d + c.args.n) (omega arith))
-        (and_right (leb c.args.first d) (ltb d c.args.end) (le-ltb d c.args.end (omega arith))))
+returns c =
+    let ws = c.args.self.now.words in
+    let word = each_call
+    {P = λ at y. (at < c.args.count → (k : ℕ) → k < 64 → bit k y ≡ (marked ws (64 * at + k + c.args.n) || (leb c.args.first (64 * at + k) && ltb (64 * at + k) c.args.end))) × (c.args.count ≤ at → y ≡ 0)}
+    (λ at y q k. search (rules, tests)) c.from_fn-words.result 16 0 c.from_fn-words.ensures.items.each in
+    record {
+      kept = λ d h.
+          let place : 64 * (d / 64) + d % 64 ≡ d = omega arith in
+          (word (d / 64) (omega arith) (omega arith)).0 (omega arith) (d % 64) (omega arith)
+          ∙ ap (λ m. marked ws (m + c.args.n) || (leb c.args.first m && ltb m c.args.end)) place;
+      none = λ d h. ⊎_elim (λ (l : d < 64 * 16). ap (bit (d % 64)) ((word (d / 64) (omega arith) (omega arith)).1 (omega arith)) ∙ zero_bit (d % 64)) (λ (l : 64 * 16 ≤ d). past_words c.from_fn-words.result d (omega arith)) (cases_lt d (64 * 16));
+    }

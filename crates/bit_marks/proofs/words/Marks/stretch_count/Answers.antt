@@ -1,26 +1,21 @@
 -- Stretches counted word by word. Assumes nothing.
-use Rattle.std.proofs.Common.{◌≡◌, ◌+◌, ◌-◌, ◌*◌, sym, ap, ◌∙◌, arith}
-use lib.Count.{ones, ones-le}
+use Rattle.std.proofs.Common.{◌+◌, ◌-◌, ◌*◌, ◌∙◌, arith, rules, tests}
+use Rattle.std.proofs.lemmas.List.FromFn.{length-range_with_len}
+use Rattle.std.proofs.lemmas.Iterator.{YieldsList-from_range, YieldsList-from_map}
+use Rattle.std.proofs.lemmas.Iterator.Adapters.{fits_from_length, at_most_from_yields_List}
+use Rattle.std.proofs.lemmas.Iterator.Consumers.{sum_from_yields_List}
 use Rattle.mitl.specs.Memory.{stretches}
 use Rattle.bit_marks.specs.Marks.{marked}
-use Rattle.bit_marks.specs.Places.{ends_decided}
-use Rattle.bit_marks.proofs.Stretches.{more_stretches, past_stretches}
+use Rattle.bit_marks.proofs.Stretches.{stretches_by_word}
 use Rattle.bit_marks.proofs.words.Marks.stretch_count.Goals as goal
 
-pub overflow_add-count : goal.overflow_add-count
-overflow_add-count c = omega (arith, ones-le 64 c.ends.result c.ends.type_inv)
-
-pub loop-at-preserved : goal.loop-at-preserved
-loop-at-preserved c =
-    let e : 64 * c.loop-at.at + 64 ≡ 64 * (c.loop-at.at + 1) = omega arith in
-    let more : stretches (marked c.args.self.now.words) (64 * c.loop-at.at + 64) ≡ ones c.ends.result + stretches (marked c.args.self.now.words) (64 * c.loop-at.at) =
-    more_stretches (marked c.args.self.now.words) (64 * c.loop-at.at) 64 c.ends.result c.ends.type_inv c.ends.ensures in
-    let new : stretches (marked c.args.self.now.words) (64 * (c.loop-at.at + 1)) ≡ ones c.ends.result + stretches (marked c.args.self.now.words) (64 * c.loop-at.at) =
-    ap (stretches (marked c.args.self.now.words)) (sym e) ∙ more in
-    (omega (arith, new, c.loop-at.invariant.0), omega (arith, ones-le 64 c.ends.result c.ends.type_inv))
+pub sum-requires-clause-fits : goal.sum-requires-clause-fits
+sum-requires-clause-fits c =
+    fits_from_length _ _ 16 _ (at_most_from_yields_List (YieldsList-from_range 0 c.args.count c.args.count c.map.ensures.source (omega arith)) (omega (arith, length-range_with_len 0 c.args.count))) c.map.ensures.closure (omega arith) (λ x r q k. search (rules, tests))
 
 pub returns : goal.returns
 returns c =
-    let e : c.args.b + (64 * c.loop-at.at - c.args.b) ≡ 64 * c.loop-at.at = omega arith in
-    c.loop-at.invariant.0 ∙ ap (stretches (marked c.args.self.now.words)) (sym e)
-    ∙ past_stretches (marked c.args.self.now.words) c.args.b (64 * c.loop-at.at - c.args.b) ((ends_decided c.args.b c.args.self.now.words).0 c.requires.within)
+    let mark = marked c.args.self.now.words in
+    sum_from_yields_List c.map.result c.sum.result c.sum.ensures.ran
+    (YieldsList-from_map _ (λ at. stretches mark (64 * at + 64) - stretches mark (64 * at)) (YieldsList-from_range 0 c.args.count c.args.count c.map.ensures.source (omega arith)) c.map.ensures.closure (λ x r q k. search rules))
+    ∙ stretches_by_word mark c.args.count
