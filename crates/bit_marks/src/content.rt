@@ -69,7 +69,7 @@ impl Settled {
         // the marks from a - n on and below b are within reach of the ticks taken
         let first = a.saturating_sub(n) as usize;
         let end = set_end(b, operand, n) as usize;
-        let marks = marks.advanced(self.word_count(), n, first, end);
+        let marks = marks.advanced(self.word_count(), n, &(first..end));
         Settled {
             content: BitMarks { a, b, marks },
         }

@@ -5,6 +5,7 @@ ghost use Rattle.mitl.specs.Memory.{stretches};
 ghost use Rattle.bit_marks.specs.Marks.{marked, ends_by};
 
 use std::array;
+use std::ops::Range;
 
 // Enough for a thousand marks.
 const WORDS: usize = 16;
@@ -65,24 +66,23 @@ impl Marks {
         self.from_place(at + n as usize / 64, n as usize % 64)
     }
 
-    // Word `at` of the marks moved down by n places, where those from `first` on and below `end` are set too.
-    fn advanced_word(&self, n: u32, first: usize, end: usize, at: usize) -> u64
+    // Word `at` of the marks moved down by n places, where the marks of `reach` are set too.
+    fn advanced_word(&self, n: u32, reach: &Range<usize>, at: usize) -> u64
         requires { at < 16 }
-        ensures { (k : ℕ) → k < 64 → bit k result ≡ (marked self.now.words (64 * at + k + n) || (nat_le first (64 * at + k) && nat_lt (64 * at + k) end)) }
+        ensures { (k : ℕ) → k < 64 → bit k result ≡ (marked self.now.words (64 * at + k + n) || (nat_le reach.now.start (64 * at + k) && nat_lt (64 * at + k) reach.now.end)) }
     {
-        self.moved(n, at) | between(first, end, at)
+        self.moved(n, at) | between(reach, at)
     }
 
-    // The marks moved down by n places, those from `first` on and below `end` set too, in the first `count` words; past
-    // these all marks are no.
-    pub(crate) fn advanced(&self, count: usize, n: u32, first: usize, end: usize) -> Marks
+    // The marks moved down by n places, those of `reach` set too, in the first `count` words; past these all marks are no.
+    pub(crate) fn advanced(&self, count: usize, n: u32, reach: &Range<usize>) -> Marks
         requires { count ≤ 16 }
-        ensures kept { (d : ℕ) → d < 64 * count → marked result.words d ≡ (marked self.now.words (d + n) || (nat_le first d && nat_lt d end)) }
+        ensures kept { (d : ℕ) → d < 64 * count → marked result.words d ≡ (marked self.now.words (d + n) || (nat_le reach.now.start d && nat_lt d reach.now.end)) }
         ensures none { (d : ℕ) → 64 * count ≤ d → marked result.words d ≡ false }
     {
         let words = array::from_fn(|at| {
             if at < count {
-                self.advanced_word(n, first, end, at)
+                self.advanced_word(n, reach, at)
             } else {
                 0
             }
@@ -137,12 +137,12 @@ fn below(end: usize, at: usize) -> u64
     }
 }
 
-// Word `at` with the bits of the marks from `first` on and below `end`.
-fn between(first: usize, end: usize, at: usize) -> u64
+// Word `at` with the bits of the marks of `reach`.
+fn between(reach: &Range<usize>, at: usize) -> u64
     requires { at < 16 }
-    ensures { (k : ℕ) → k < 64 → bit k result ≡ (nat_le first (64 * at + k) && nat_lt (64 * at + k) end) }
+    ensures { (k : ℕ) → k < 64 → bit k result ≡ (nat_le reach.now.start (64 * at + k) && nat_lt (64 * at + k) reach.now.end) }
 {
-    below(end, at) & !below(first, at)
+    below(reach.end, at) & !below(reach.start, at)
 }
 
 // The 64 bits from place `by` on of a low word and the high word after it.

@@ -24,12 +24,12 @@ pub returns : goal.returns
 returns c =
     let ws = c.args.self.now.words in
     let word = each_call
-    {P = λ at y. (at < c.args.count → (k : ℕ) → k < 64 → bit k y ≡ (marked ws (64 * at + k + c.args.n) || (leb c.args.first (64 * at + k) && ltb (64 * at + k) c.args.end))) × (c.args.count ≤ at → y ≡ 0)}
+    {P = λ at y. (at < c.args.count → (k : ℕ) → k < 64 → bit k y ≡ (marked ws (64 * at + k + c.args.n) || (leb c.args.reach.now.start (64 * at + k) && ltb (64 * at + k) c.args.reach.now.end))) × (c.args.count ≤ at → y ≡ 0)}
     (λ at y q k. search (rules, tests)) c.from_fn-words.result 16 0 c.from_fn-words.ensures.items.each in
     record {
       kept = λ d h.
           let place : 64 * (d / 64) + d % 64 ≡ d = omega arith in
           (word (d / 64) (omega arith) (omega arith)).0 (omega arith) (d % 64) (omega arith)
-          ∙ ap (λ m. marked ws (m + c.args.n) || (leb c.args.first m && ltb m c.args.end)) place;
+          ∙ ap (λ m. marked ws (m + c.args.n) || (leb c.args.reach.now.start m && ltb m c.args.reach.now.end)) place;
       none = λ d h. ⊎_elim (λ (l : d < 64 * 16). ap (bit (d % 64)) ((word (d / 64) (omega arith) (omega arith)).1 (omega arith)) ∙ zero_bit (d % 64)) (λ (l : 64 * 16 ≤ d). past_words c.from_fn-words.result d (omega arith)) (cases_lt d (64 * 16));
     }
