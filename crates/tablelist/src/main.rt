@@ -10,6 +10,7 @@ ghost use Rattle.tablelist.specs.Texts.{heading_text, line_text};
 use mitl::Row;
 use plan::Counts;
 use plan::plan::Plan;
+use refusal::Refusal;
 use std::io::Read;
 use std::{fmt, io};
 use table::decode_any;
@@ -106,7 +107,7 @@ fn reason(fault: TableFault) -> &'static str {
 
 impl fmt::Display for Refused {
     fn fmt<W: fmt::Write>(&self, f: &mut fmt::Formatter<W>) -> fmt::Result {
-        let refusal = self.fault.refusal();
+        let refusal = Refusal::from(self.fault);
         let number = refusal.number;
         let place = refusal.place;
         let words = reason(self.fault);

@@ -38,7 +38,7 @@ impl SetFault {
         ensures { result ≡ of_set self }
     {
         match self {
-            SetFault::Table(fault) => fault.refusal(),
+            SetFault::Table(fault) => fault.into(),
             SetFault::List(fault) => fault.refusal(),
             SetFault::Memories => Refusal::new(13, 0),
         }
