@@ -1,33 +1,13 @@
 -- The first number with a property. Assumes nothing.
 use Rattle.std.proofs.Common.{◌≡◌, ℕ, zero, suc, ◌+◌, ◌<◌, ◌≤◌, Bool, true, false, sym, ap, ◌∙◌, inl, inr, arith}
-use Rattle.std.proofs.lemmas.Bool.{cases_Bool, cases_eq, cond-true, cond-false}
+use Rattle.std.proofs.lemmas.Bool.{cases_Bool, cases_eq, cases_lt, both_ways, cond-true, cond-false}
 use Rattle.std.proofs.lemmas.Bool.Decides.{nat_tests}
 use Rattle.table.specs.Chain.{first_from}
 
 module _ (p : ℕ → Bool) where
-  pub first_is : (i n j : ℕ) → i ≤ j → j < i + n → ((k : ℕ) → i ≤ k → k < j → p k ≡ false) → p j ≡ true → first_from p i n ≡ j
-  first_is i zero j low high none e = absurd (omega arith)
-  first_is i (suc n) j low high none e =
-      elim (cases_eq i j) [
-        | inl same ↦ cond-true (p i) i (first_from p (suc i) n) (ap p same ∙ e) ∙ same
-        | inr other ↦
-            cond-false (p i) i (first_from p (suc i) n) (none i (omega arith) (omega arith))
-            ∙ first_is (suc i) n j (omega arith) (omega arith) (λ k l h. none k (omega arith) h) e
-      ]
-
   first_low : (i n : ℕ) → i ≤ first_from p i n
   first_low i zero = omega arith
   first_low i (suc n) = let h = first_low (suc i) n in grind (arith, nat_tests)
-
-  pub first_past : (i n j : ℕ) → i ≤ j → j ≤ i + n → ((k : ℕ) → i ≤ k → k < j → p k ≡ false) → j ≤ first_from p i n
-  first_past i zero j low high none = omega arith
-  first_past i (suc n) j low high none =
-      elim (cases_eq i j) [
-        | inl same ↦ omega (arith, first_low i (suc n))
-        | inr other ↦
-            let e = cond-false (p i) i (first_from p (suc i) n) (none i (omega arith) (omega arith)) in
-            omega (arith, e, first_past (suc i) n j (omega arith) (omega arith) (λ k l h. none k (omega arith) h))
-      ]
 
   -- what the first number is known for
   pub first_before : (i n k : ℕ) → i ≤ k → k < first_from p i n → p k ≡ false
@@ -48,4 +28,18 @@ module _ (p : ℕ → Bool) where
         | inr y ↦
             let e = cond-false (p i) i (first_from p (suc i) n) y in
             ap p e ∙ first_at (suc i) n (omega arith)
+      ]
+
+  pub first_past : (i n j : ℕ) → i ≤ j → j ≤ i + n → ((k : ℕ) → i ≤ k → k < j → p k ≡ false) → j ≤ first_from p i n
+  first_past i n j low high none =
+      elim (cases_lt (first_from p i n) j) [
+        | inl l ↦ absurd (both_ways (p (first_from p i n)) (none (first_from p i n) (first_low i n) l) (first_at i n (omega arith)))
+        | inr l ↦ l
+      ]
+
+  pub first_is : (i n j : ℕ) → i ≤ j → j < i + n → ((k : ℕ) → i ≤ k → k < j → p k ≡ false) → p j ≡ true → first_from p i n ≡ j
+  first_is i n j low high none e =
+      elim (cases_lt j (first_from p i n)) [
+        | inl l ↦ absurd (both_ways (p j) (first_before i n j low l) e)
+        | inr l ↦ omega (arith, first_past i n j low (omega arith) none)
       ]
