@@ -1,6 +1,6 @@
 -- A whole chain as a plan, and the refusal of a table by its parts. Assumes nothing.
 use Rattle.std.proofs.Common.{◌≡◌, ℕ, ◌-◌, ◌<◌, Bool, true, false, not, ◌&&◌, List, [], ◌∷◌, ◌++◌, take, drop, replicate, Some, None, Option, sym, ap, ◌∙◌, arith}
-use Rattle.std.proofs.lemmas.List.FromFn.{length-map-range_with_len, get_or-map-range_with_len}
+use Rattle.std.proofs.lemmas.List.FromFn.{get_or-map-range_with_len}
 use Rattle.std.proofs.lemmas.List.{get_or-take}
 use Rattle.std.specs.Option.{ok_or}
 use Rattle.std.proofs.lemmas.Bool.{le-leb, not_from_true, not_from_false, cond-true, cond-false}
@@ -11,17 +11,14 @@ use Rattle.plan.specs.declared.plan.Plan.{Plan}
 use Rattle.plan.specs.Built.{Built}
 use Rattle.plan.specs.Sound.{is_a_rule, row_ok, sound_rows}
 use Rattle.plan.proofs.Below.{all_from, some_same}
-use Rattle.table.specs.Chain.{on_chain, row_in, fields_at, numbers_before, rows_before, ruled, head_faults, chain_faults, table_refusal}
+use Rattle.table.specs.Chain.{row_in, numbers_before, rows_before, ruled, head_faults, chain_faults, table_refusal}
 use Rattle.table.specs.Decoded.{Decoded, PlanOf}
 use Rattle.table.specs.declared.fault.TableFault.TheVariants.{NoRule}
 use Rattle.table.specs.Steps.{DraftOf}
-use Rattle.table.specs.Faults.{row_of}
-use Rattle.table.specs.Layout.{rows_told}
 use Rattle.refusal.specs.Faults.{Fault, first_fault, refusal, fault}
 use Rattle.table.specs.declared.draft.Draft.{Draft}
 use Rattle.refusal.specs.declared.Refusal.{Refusal}
-use Rattle.table.proofs.Chains.{fine_at}
-use Rattle.table.proofs.Fine.{row_fine}
+use Rattle.table.proofs.Chains.{row_stands}
 use Rattle.refusal.proofs.Firsts.{after_none, before_rest}
 
 module _ (admits : ℕ → ℕ → Bool) (t : List ℕ) (d : Draft) (of : DraftOf admits t d) where
@@ -30,21 +27,10 @@ module _ (admits : ℕ → ℕ → Bool) (t : List ℕ) (d : Draft) (of : DraftO
       sym (get_or-take d.count d.rows k (Input 0) h) ∙ ap (λ l. row_at l k) of.rows
       ∙ get_or-map-range_with_len (row_in t) 0 d.count k k (Input 0) h (omega arith)
 
-  row_there : (k j : ℕ) → k < d.count → j < k → row_at d.rows j ≡ row_at (rows_before t k) j
-  row_there k j h l =
-      row_here j (omega arith) ∙ sym (get_or-map-range_with_len (row_in t) 0 k j j (Input 0) l (omega arith))
-
-  row_stands : (k : ℕ) → k < d.count → row_ok d.rows k (row_at d.rows k) ≡ true
-  row_stands k h =
-      let f = fine_at admits t k (of.each k h) in
-      let ns = numbers_before t k in
-      ap (row_ok d.rows k) (row_here k h ∙ ap (λ o. row_of ns o (fields_at t k)) f.1)
-      ∙ row_fine ns (rows_before t k) d.rows k (length-map-range_with_len (on_chain t) 0 k) (λ j l. row_there k j h l) (rows_told t) (on_chain t k) f.0 (fields_at t k) f.2
-
   sound_draft : sound_rows d.rows d.count ≡ ruled t
   sound_draft =
       let small = le-leb d.count 64 d.few in
-      let each = all_from (λ k. row_ok d.rows k (row_at d.rows k)) d.count row_stands in
+      let each = all_from (λ k. row_ok d.rows k (row_at d.rows k)) d.count (row_stands admits t d.rows d.count of.each row_here) in
       let some = some_same (λ k. is_a_rule (row_at d.rows k)) (λ k. is_a_rule (row_in t k)) d.count (λ k h. ap is_a_rule (row_here k h)) in
       (λ i. small i && (each i && some i)) ∙ ap (some_below (λ k. is_a_rule (row_in t k))) of.count
 

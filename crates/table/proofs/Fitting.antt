@@ -4,15 +4,14 @@ use Rattle.std.proofs.lemmas.List.FromFn.{length-map-range_with_len, get_or-map-
 use Rattle.std.proofs.lemmas.Bool.{cases_lt, cases_eq, and_parts, eq-eqb, eqb-true, both_ways}
 use Rattle.mitl.specs.declared.Row.TheVariants.{Input, Rule}
 use Rattle.mitl.specs.Rows.{row_at, is_rule}
-use Rattle.plan.specs.Sound.{row_ok}
 use Rattle.plan.proofs.Earlier.{row_earlier, row_proper}
 use Rattle.table.specs.Chain.{on_chain, fields_at, letter_at, numbers_before, row_in, rows_before, rows_in, chain_length}
-use Rattle.table.specs.Faults.{row_of, rule_used}
+use Rattle.table.specs.Faults.{rule_used}
 use Rattle.table.specs.Laws.{Clear, RowsFit}
 use Rattle.table.specs.Layout.{rows_told}
 use Rattle.table.specs.Letters.{letter_from}
-use Rattle.table.proofs.Chains.{fine_at}
-use Rattle.table.proofs.Fine.{row_fine, unused_of}
+use Rattle.table.proofs.Chains.{row_stands}
+use Rattle.table.proofs.Fine.{unused_of}
 use Rattle.table.proofs.Said.{said, rule_number_is}
 
 module _ (admits : ℕ → ℕ → Bool) (t : List ℕ) (clear : Clear admits t (chain_length t)) where
@@ -21,14 +20,6 @@ module _ (admits : ℕ → ℕ → Bool) (t : List ℕ) (clear : Clear admits t 
 
   row_here : (k : ℕ) → k < chain_length t → row_at (rows_in t) k ≡ row_in t k
   row_here k l = get_or-map-range_with_len (row_in t) 0 (chain_length t) k k (Input 0) l (omega arith)
-
-  row_stands : (k : ℕ) → k < chain_length t → row_ok (rows_in t) k (row_at (rows_in t) k) ≡ true
-  row_stands k l =
-      let f = fine_at admits t k (clear k l) in
-      let ns = numbers_before t k in
-      let before : (j : ℕ) → j < k → row_at (rows_in t) j ≡ row_at (rows_before t k) j = λ j m. row_here j (omega arith) ∙ sym (get_or-map-range_with_len (row_in t) 0 k j j (Input 0) m (omega arith)) in
-      ap (row_ok (rows_in t) k) (row_here k l ∙ ap (λ o. row_of ns o (fields_at t k)) f.1)
-      ∙ row_fine ns (rows_before t k) (rows_in t) k (length-map-range_with_len (on_chain t) 0 k) before (rows_told t) (on_chain t k) f.0 (fields_at t k) f.2
 
   -- an R row of the table
   ruled_at : (k i l : ℕ) → k < chain_length t → row_at (rows_in t) k ≡ Rule i l → ((fields_at t k).letter ≡ 82) × ((fields_at t k).number ≡ i)
@@ -49,8 +40,8 @@ module _ (admits : ℕ → ℕ → Bool) (t : List ℕ) (clear : Clear admits t 
 
   pub rows_fit : RowsFit t
   rows_fit = record {
-    chained = λ k l. row_earlier (rows_in t) k k (omega arith) (row_at (rows_in t) k) (row_stands k (omega (arith, size)));
-    proper = λ k l. row_proper (rows_in t) k (row_at (rows_in t) k) (row_stands k (omega (arith, size)));
+    chained = λ k l. row_earlier (rows_in t) k k (omega arith) (row_at (rows_in t) k) (row_stands admits t (rows_in t) (chain_length t) clear row_here k (omega (arith, size)));
+    proper = λ k l. row_proper (rows_in t) k (row_at (rows_in t) k) (row_stands admits t (rows_in t) (chain_length t) clear row_here k (omega (arith, size)));
     rules_apart = λ i j k l m low high first second.
         elim (cases_lt j k) [
           | inl less ↦ absurd (later i j k l m less (omega (arith, size)) first second)
