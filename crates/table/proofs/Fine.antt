@@ -1,6 +1,9 @@
 -- What is known of a row without a fault. Assumes nothing.
-use Rattle.std.proofs.Common.{◌≡◌, ℕ, ◌<◌, ◌≤◌, Bool, true, false, cond, not, ◌&&◌, ◌||◌, eqb, ltb, List, length, is_some, Some, None, Option, unwrap_or, sym, refl, ap, ◌∙◌, subst, inl, inr, arith}
-use Rattle.std.proofs.lemmas.Bool.{cases_Bool, and_parts, and_from, not-false, not_from_false, or_parts, ltb-false, eqb-false, both_ways, cond-true, lt-ltb}
+use Rattle.std.proofs.Common.{◌≡◌, ℕ, ◌<◌, ◌≤◌, Bool, true, false, cond, not, ◌&&◌, ◌||◌, eqb, ltb, List, length, is_some, Some, None, Option, unwrap_or, sym, refl, ap, ◌∙◌, subst, arith}
+use Rattle.std.proofs.lemmas.Bool.{and_parts, and_from, not-false, not_from_false, or_parts, ltb-false, eqb-false, lt-ltb}
+use Rattle.std.proofs.lemmas.Bool.Decides.{nat_tests}
+use Rattle.std.proofs.lemmas.Option.{none-some}
+use Rattle.refusal.specs.Faults.{refusal}
 use Rattle.mitl.specs.declared.Row.{Row}
 use Rattle.mitl.specs.Rows.{row_at}
 use Rattle.mitl.specs.Windows.{sound_window}
@@ -25,7 +28,7 @@ pub record Fine (told : ℕ) (ns : List ℕ) (rs : List Row) (r : ℕ) (c : Lett
 
 not_some : (o : Option ℕ) → is_some o ≡ false → o ≡ None
 not_some None e = refl
-not_some (Some k) e = absurd (both_ways true e refl)
+not_some (Some k) e = grind arith
 
 module _ (admits : ℕ → ℕ → Bool) (told : ℕ) (ns : List ℕ) (rs : List Row) (r : ℕ) where
   fine_as : (c : Letter) (f : Fields) → first_fault (faults_as admits told ns rs r c f) ≡ None → Fine told ns rs r c f
@@ -43,7 +46,7 @@ module _ (admits : ℕ → ℕ → Bool) (told : ℕ) (ns : List ℕ) (rs : List
       }
 
   pub fine_of : (o : Option Letter) (f : Fields) → first_fault (faults_of admits told ns rs r o f) ≡ None → (c : Letter) × (o ≡ Some c) × Fine told ns rs r c f
-  fine_of None f e = let z : ◌≡◌ {A = ℕ} 0 1 = cc in absurd (omega arith)
+  fine_of None f e = absurd (none-some (refusal 4 r) (sym e))
   fine_of (Some c) f e = (c, refl, fine_as c f e)
 
   -- the number of an R row without a fault was not used before
@@ -54,14 +57,10 @@ module _ (admits : ℕ → ℕ → Bool) (told : ℕ) (ns : List ℕ) (rs : List
 -- a row without a fault may stand at its place of a plan
 module _ (ns : List ℕ) (rs rows : List Row) (k : ℕ) (long : length ns ≡ k) (same : (j : ℕ) → j < k → row_at rows j ≡ row_at rs j) where
   no_rule : (j : ℕ) → is_some (cond (is_a_rule (row_at rs j)) None (Some j)) ≡ true → is_a_rule (row_at rs j) ≡ false
-  no_rule j e =
-      elim (cases_Bool (is_a_rule (row_at rs j))) [
-        | inl y ↦ absurd (both_ways (is_some (cond (is_a_rule (row_at rs j)) None (Some j))) (ap is_some (cond-true (is_a_rule (row_at rs j)) None (Some j) y)) e)
-        | inr y ↦ y
-      ]
+  no_rule j e = grind (arith, nat_tests)
 
   operand_at : (n : ℕ) (o : Option ℕ) → place_among_lem ns n ≡ o → is_some (unless_rule rs o) ≡ true → operand_ok rows k (place_in ns n) ≡ true
-  operand_at n None e some = absurd (both_ways true (sym some) refl)
+  operand_at n None e some = grind arith
   operand_at n (Some j) e some =
       let w = found_place ns n j e in
       let in' : j < k = omega (arith, w.0) in

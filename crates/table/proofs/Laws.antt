@@ -2,6 +2,7 @@
 use Rattle.std.proofs.Common.{◌≡◌, ℕ, zero, suc, ◌-◌, ◌<◌, ◌≤◌, Bool, not, eqb, List, [], ◌∷◌, ◌++◌, take, drop, replicate, Some, None, Ok, Err, Result, sym, refl, ap, ◌∙◌, inl, inr, arith}
 use Rattle.std.proofs.lemmas.List.{take-append-drop}
 use Rattle.std.proofs.lemmas.Bool.{cases_lt, eqb-true, eqb-false}
+use Rattle.std.proofs.lemmas.Option.{none-some, same_Some}
 use Rattle.mitl.specs.declared.Row.TheVariants.{Input}
 use Rattle.plan.specs.declared.plan.Plan.{Plan}
 use Rattle.plan.specs.Sound.{is_a_rule}
@@ -119,17 +120,9 @@ module _ (admits : ℕ → ℕ → Bool) (t : List ℕ) where
         same_list p.numbers q.numbers p.count q.count 0 _ count a.1.numbers b.1.numbers a.1.idle_numbers b.1.idle_numbers,
         count,
       )
-  one (Ok p) (Err g) a b =
-      let s : None ≡ Some (of_table g) = sym a.0 ∙ b in
-      let z : ◌≡◌ {A = ℕ} 0 1 = cc in
-      omega arith
-  one (Err f) (Ok q) a b =
-      let s : None ≡ Some (of_table f) = sym b.0 ∙ a in
-      let z : ◌≡◌ {A = ℕ} 0 1 = cc in
-      omega arith
-  one (Err f) (Err g) a b =
-      let s : Some (of_table f) ≡ Some (of_table g) = sym a ∙ b in
-      cc
+  one (Ok p) (Err g) a b = none-some (of_table g) (sym a.0 ∙ b)
+  one (Err f) (Ok q) a b = none-some (of_table f) (sym b.0 ∙ a)
+  one (Err f) (Err g) a b = same_Some (of_table f) (of_table g) (sym a ∙ b)
 
 pub tables_told : TablesTold
 tables_told = record { said = said; told = tells; chained = chained; one_reply = one }

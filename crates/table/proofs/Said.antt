@@ -1,7 +1,7 @@
 -- What the tests on the rows before a place say of the chain and of the bytes. Assumes nothing.
-use Rattle.std.proofs.Common.{◌≡◌, ℕ, ◌<◌, Bool, true, false, cond, not, ◌&&◌, eqb, List, length, get_or, is_some, Some, None, Decides, Option, unwrap_or, sym, refl, ap, ◌∙◌, inl, inr, arith}
+use Rattle.std.proofs.Common.{◌≡◌, ℕ, ◌<◌, Bool, true, false, cond, not, ◌&&◌, eqb, List, length, get_or, is_some, Some, None, Decides, Option, unwrap_or, sym, refl, ap, ◌∙◌, arith}
 use Rattle.std.proofs.lemmas.List.FromFn.{length-map-range_with_len, get_or-map-range_with_len}
-use Rattle.std.proofs.lemmas.Bool.{cases_Bool, both_ways, eq-eqb, eqb-true, eqb-false, cond-true, cond-false, and_parts, and_from}
+use Rattle.std.proofs.lemmas.Bool.{both_ways, eq-eqb, eqb-true, and_parts, and_from}
 use Rattle.std.proofs.lemmas.Bool.Decides.{nat_tests}
 use Rattle.mitl.specs.declared.Row.TheVariants.{Input}
 use Rattle.mitl.specs.Rows.{row_at, is_rule}
@@ -71,7 +71,7 @@ module _ (t : List ℕ) (i : ℕ) where
       lost_from 0 (numbers_before t i) n e k (omega (arith, length-map-range_with_len (on_chain t) 0 i)) (at_place k l ∙ s)
 
   stands_by : (n : ℕ) (o : Option ℕ) → place_among_lem (numbers_before t i) n ≡ o → Decides (is_some o) ((k : ℕ) × (k < i) × (on_chain t k ≡ n))
-  stands_by n None e = (λ y. absurd (both_ways true (sym y) refl), λ w. absurd (lost_at n e w.0 w.1 w.2))
+  stands_by n None e = (λ y. grind arith, λ w. absurd (lost_at n e w.0 w.1 w.2))
   stands_by n (Some k) e = let w = found_at n k e in (λ _. (k, w.0, w.1), λ _. refl)
 
   place_by : (n : ℕ) (o : Option ℕ) → place_among_lem (numbers_before t i) n ≡ o → is_some o ≡ true → (unwrap_or o 0 < i) × (on_chain t (unwrap_or o 0) ≡ n)
@@ -89,15 +89,10 @@ module _ (t : List ℕ) (i : ℕ) where
   operand_by n None e = (λ y. absurd (both_ways true (sym y) refl), λ w. absurd (lost_at n e w.0.0 w.0.1 w.0.2))
   operand_by n (Some k) e =
       let w = found_at n k e in
-      let r = rule_at n k w.0 w.1 in
-      elim (cases_Bool (is_a_rule (row_at (rows_before t i) k))) [
-        | inl y ↦
-            let c = ap is_some (cond-true (is_a_rule (row_at (rows_before t i) k)) None (Some k) y) in
-            (λ z. absurd (both_ways _ c z), λ z. absurd (z.1 (eqb-true _ 82 (sym r ∙ y))))
-        | inr y ↦
-            let c = ap is_some (cond-false (is_a_rule (row_at (rows_before t i) k)) None (Some k) y) in
-            (λ _. ((k, w.0, w.1), eqb-false _ 82 (sym r ∙ y)), λ _. c)
-      ]
+      let r = rule_at n k w.0 w.1 in (
+        λ z. ((k, w.0, w.1), λ e. grind (arith, nat_tests)),
+        λ z. grind (arith, nat_tests, z.1),
+      )
 
   number_at : (n k : ℕ) → k < i → is_rule n (row_at (rows_before t i) k) ≡ (eqb (fields_at t k).letter 82 && eqb n (fields_at t k).number)
   number_at n k l =
