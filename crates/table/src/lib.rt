@@ -45,7 +45,7 @@ fn open(bytes: &[u8]) -> Result<Head, TableFault>
     let [m3, m2, m1, m0, told, first, z1, z0, rows @ ..] = bytes else {
         return Err(TableFault::Length);
     };
-    if !(*m3 == 0x4c && *m2 == 0x57 && *m1 == 0x52 && *m0 == 0x54) {
+    if [*m3, *m2, *m1, *m0] != *b"LWRT" {
         return Err(TableFault::Mark);
     }
     let head = Head {

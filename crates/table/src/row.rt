@@ -36,7 +36,7 @@ pub struct Fields {
     pub left: u8,
     pub right: u8,
     pub next: u8,
-    // the three zero bytes are zero
+    // The three zero bytes are zero: a test and not the bytes, since nothing else is asked of them.
     pub blank: bool,
     pub a: u32,
     pub b: u32,
@@ -147,8 +147,8 @@ impl Fields {
         requires { (1 ≤ row) × (row_start row + 16 ≤ length bytes.now) }
         ensures { result ≡ fields_of bytes.now row }
     {
-        let start = 8 + 16 * (row as usize - 1);
-        apart(&bytes[start..start + 16])
+        let rest = &bytes[8 + 16 * (row as usize - 1)..];
+        apart(&rest[..16])
     }
 }
 
