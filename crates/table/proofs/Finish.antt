@@ -1,9 +1,9 @@
 -- A whole chain as a plan, and the refusal of a table by its parts. Assumes nothing.
-use Rattle.std.proofs.Common.{◌≡◌, ℕ, ◌-◌, ◌<◌, Bool, true, false, not, ◌&&◌, List, [], ◌∷◌, ◌++◌, take, drop, replicate, Some, None, Option, sym, ap, ◌∙◌, arith}
+use Rattle.std.proofs.Common.{◌≡◌, ℕ, ◌<◌, Bool, true, false, not, ◌&&◌, List, [], ◌∷◌, ◌++◌, Some, None, Option, sym, ap, ◌∙◌, arith}
 use Rattle.std.proofs.lemmas.List.FromFn.{get_or-map-range_with_len}
 use Rattle.std.proofs.lemmas.List.{get_or-take}
 use Rattle.std.specs.Option.{ok_or}
-use Rattle.std.proofs.lemmas.Bool.{le-leb, not_from_true, not_from_false, cond-true, cond-false}
+use Rattle.std.proofs.lemmas.Bool.{le-leb, cond-true, cond-false}
 use Rattle.mitl.specs.declared.Row.TheVariants.{Input}
 use Rattle.mitl.specs.Rows.{row_at}
 use Rattle.mitl.specs.Windows.{some_below}
@@ -11,7 +11,7 @@ use Rattle.plan.specs.declared.plan.Plan.{Plan}
 use Rattle.plan.specs.Built.{Built}
 use Rattle.plan.specs.Sound.{is_a_rule, row_ok, sound_rows}
 use Rattle.plan.proofs.Below.{all_from, some_same}
-use Rattle.table.specs.Chain.{row_in, numbers_before, rows_before, ruled, head_faults, chain_faults, table_refusal}
+use Rattle.table.specs.Chain.{row_in, ruled, head_faults, chain_faults, table_refusal}
 use Rattle.table.specs.Decoded.{Decoded, PlanOf}
 use Rattle.table.specs.declared.fault.TableFault.TheVariants.{NoRule}
 use Rattle.table.specs.Steps.{DraftOf}
@@ -36,13 +36,7 @@ module _ (admits : ℕ → ℕ → Bool) (t : List ℕ) (d : Draft) (of : DraftO
 
   planned : (p : Plan) → p.rows ≡ d.rows → p.numbers ≡ d.numbers → p.count ≡ d.count → PlanOf t p
   planned p rows numbers count =
-      record {
-        count = count ∙ of.count;
-        rows = (λ i. take (count i) (rows i)) ∙ of.rows ∙ ap (rows_before t) of.count;
-        numbers = (λ i. take (count i) (numbers i)) ∙ of.numbers ∙ ap (numbers_before t) of.count;
-        idle_rows = (λ i. drop (count i) (rows i)) ∙ d.idle_rows ∙ ap (λ n. replicate (64 - n) (Input 0)) (sym count);
-        idle_numbers = (λ i. drop (count i) (numbers i)) ∙ d.idle_numbers ∙ ap (λ n. replicate (64 - n) 0) (sym count);
-      }
+      record { count = cc; rows = cc; numbers = cc; idle_rows = cc (d.idle_rows); idle_numbers = cc (d.idle_numbers) }
 
 module _ (admits : ℕ → ℕ → Bool) (t : List ℕ) where
   last_check : List Fault
@@ -58,17 +52,17 @@ module _ (admits : ℕ → ℕ → Bool) (t : List ℕ) where
     row_refused r e = after_none (head_faults t) (chain_faults admits t ++ last_check) opened ∙ before_rest (chain_faults admits t) last_check r e
 
     module _ (walked : first_fault (chain_faults admits t) ≡ None) where
-      pub rule_refused : ruled t ≡ false → table_refusal admits t ≡ Some (refusal 11 0)
+      by_rules : table_refusal admits t ≡ first_fault last_check
       unfolding table_refusal last_check
-      rule_refused none =
-          after_none (head_faults t) (chain_faults admits t ++ last_check) opened ∙ after_none (chain_faults admits t) last_check walked
-          ∙ cond-true (not (ruled t)) (Some (refusal 11 0)) None (not_from_false (ruled t) none)
+      by_rules = after_none (head_faults t) (chain_faults admits t ++ last_check) opened ∙ after_none (chain_faults admits t) last_check walked
+
+      pub rule_refused : ruled t ≡ false → table_refusal admits t ≡ Some (refusal 11 0)
+      unfolding last_check
+      rule_refused none = by_rules ∙ cond-true (not (ruled t)) (Some (refusal 11 0)) None (ap not none)
 
       pub not_refused : ruled t ≡ true → table_refusal admits t ≡ None
-      unfolding table_refusal last_check
-      not_refused some =
-          after_none (head_faults t) (chain_faults admits t ++ last_check) opened ∙ after_none (chain_faults admits t) last_check walked
-          ∙ cond-false (not (ruled t)) (Some (refusal 11 0)) None (not_from_true (ruled t) some)
+      unfolding last_check
+      not_refused some = by_rules ∙ cond-false (not (ruled t)) (Some (refusal 11 0)) None (ap not some)
 
       -- the reply to a whole chain: its plan, or that it has no rule
       pub built_reply : (d : Draft) → DraftOf admits t d → (o : Option Plan) → Built d.rows d.numbers d.count o → Decoded admits t (ok_or o NoRule)

@@ -1,5 +1,5 @@
 -- The laws of a table's refusal and of its chain. Assumes nothing.
-use Rattle.std.proofs.Common.{◌≡◌, ℕ, zero, suc, ◌-◌, ◌<◌, ◌≤◌, Bool, not, eqb, List, [], ◌∷◌, ◌++◌, take, drop, replicate, Some, None, Ok, Err, Result, sym, refl, ap, ◌∙◌, inl, inr, arith}
+use Rattle.std.proofs.Common.{◌≡◌, ℕ, zero, suc, ◌-◌, ◌<◌, ◌≤◌, Bool, not, eqb, List, [], ◌∷◌, ◌++◌, take, drop, replicate, Some, None, Ok, Err, Result, sym, refl, ◌∙◌, inl, inr, arith}
 use Rattle.std.proofs.lemmas.List.{take-append-drop}
 use Rattle.std.proofs.lemmas.Bool.{cases_lt, eqb-true, eqb-false}
 use Rattle.std.proofs.lemmas.Option.{none-some, same_Some}
@@ -110,8 +110,7 @@ module _ (admits : ℕ → ℕ → Bool) (t : List ℕ) where
 
   same_list : {X : Type 0} (xs ys : List X) (m n : ℕ) (d : X) (zs : List X) → m ≡ n → take m xs ≡ zs → take n ys ≡ zs
       → drop m xs ≡ replicate (64 - m) d → drop n ys ≡ replicate (64 - n) d → xs ≡ ys
-  same_list xs ys m n d zs e a b c f =
-      sym (take-append-drop m xs) ∙ (λ i. (a ∙ sym b) i ++ (c ∙ ap (λ k. replicate (64 - k) d) e ∙ sym f) i) ∙ take-append-drop n ys
+  same_list xs ys m n d zs e a b c f = grind (arith, take-append-drop m xs, take-append-drop n ys)
 
   pub one : (r s : Result Plan TableFault) → Decoded admits t r → Decoded admits t s → SameReply r s
   one (Ok p) (Ok q) a b =

@@ -1,6 +1,6 @@
 -- The first number with a property. Assumes nothing.
-use Rattle.std.proofs.Common.{◌≡◌, ℕ, zero, suc, ◌+◌, ◌<◌, ◌≤◌, Bool, true, false, sym, ap, ◌∙◌, inl, inr, arith}
-use Rattle.std.proofs.lemmas.Bool.{cases_Bool, cases_eq, cases_lt, both_ways, cond-true, cond-false}
+use Rattle.std.proofs.Common.{◌≡◌, ℕ, zero, suc, ◌+◌, ◌<◌, ◌≤◌, Bool, true, false, inl, inr, arith}
+use Rattle.std.proofs.lemmas.Bool.{cases_eq, cases_lt, both_ways}
 use Rattle.std.proofs.lemmas.Bool.Decides.{nat_tests}
 use Rattle.table.specs.Chain.{first_from}
 
@@ -13,22 +13,13 @@ module _ (p : ℕ → Bool) where
   pub first_before : (i n k : ℕ) → i ≤ k → k < first_from p i n → p k ≡ false
   first_before i zero k low high = absurd (omega arith)
   first_before i (suc n) k low high =
-      elim (cases_Bool (p i)) [
-        | inl y ↦ let e = cond-true (p i) i (first_from p (suc i) n) y in absurd (omega arith)
-        | inr y ↦
-            let e = cond-false (p i) i (first_from p (suc i) n) y in
-            elim (cases_eq i k) [ inl same ↦ ap p (sym same) ∙ y | inr other ↦ first_before (suc i) n k (omega arith) (omega arith) ]
-      ]
+      elim (cases_eq i k) [ inl same ↦ grind (arith, nat_tests) | inr other ↦ first_before (suc i) n k (omega arith) (grind (arith, nat_tests)) ]
 
   pub first_at : (i n : ℕ) → first_from p i n < i + n → p (first_from p i n) ≡ true
   first_at i zero high = absurd (omega arith)
   first_at i (suc n) high =
-      elim (cases_Bool (p i)) [
-        | inl y ↦ ap p (cond-true (p i) i (first_from p (suc i) n) y) ∙ y
-        | inr y ↦
-            let e = cond-false (p i) i (first_from p (suc i) n) y in
-            ap p e ∙ first_at (suc i) n (omega arith)
-      ]
+      let rest = first_at (suc i) n in
+      grind (arith, nat_tests)
 
   pub first_past : (i n j : ℕ) → i ≤ j → j ≤ i + n → ((k : ℕ) → i ≤ k → k < j → p k ≡ false) → j ≤ first_from p i n
   first_past i n j low high none =
