@@ -1,15 +1,16 @@
 -- How long a chain is whose rows have no fault so far. Assumes nothing.
 use Rattle.std.proofs.Common.{◌≡◌, ℕ, zero, suc, ◌+◌, ◌-◌, ◌*◌, ◌<◌, ◌≤◌, Bool, true, eqb, List, length, Some, None, sym, ap, ◌∙◌, inl, inr, arith}
 use Rattle.std.proofs.lemmas.List.FromFn.{length-map-range_with_len, get_or-map-range_with_len}
-use Rattle.std.proofs.lemmas.Bool.{and_parts, not-false, leb-true, eqb-true, eq-eqb, ne_eqb, cases_eq}
+use Rattle.std.proofs.lemmas.Bool.{eq-eqb, ne_eqb, cases_eq}
+use Rattle.std.proofs.lemmas.Bool.Decides.{nat_tests}
 use Rattle.mitl.specs.declared.Row.{Row}
 use Rattle.mitl.specs.declared.Row.TheVariants.{Input}
 use Rattle.mitl.specs.Rows.{row_at}
 use Rattle.plan.specs.Sound.{row_ok}
 use Rattle.plan.proofs.Found.{lost_from}
 use Rattle.table.specs.Faults.{row_of}
-use Rattle.table.specs.Chain.{on_chain, letter_at, fields_at, row_in, numbers_before, rows_before, chain_length, head_faults, right_head, row_faults}
-use Rattle.table.specs.Layout.{byte_at, rows_told, first_told}
+use Rattle.table.specs.Chain.{on_chain, letter_at, fields_at, row_in, numbers_before, rows_before, chain_length, head_faults, row_faults}
+use Rattle.table.specs.Layout.{rows_told, first_told}
 use Rattle.refusal.specs.Faults.{first_fault}
 use Rattle.table.specs.declared.row.Letter.{Letter}
 use Rattle.table.proofs.Distinct.{few_distinct}
@@ -27,16 +28,14 @@ pub record Headed (t : List ℕ) : Type 0 where
 pub headed : (t : List ℕ) → first_fault (head_faults t) ≡ None → Headed t
 headed t e =
     let all = none_held (head_faults t) e in
-    let right = not-false (right_head (rows_told t) (first_told t) (byte_at t 6) (byte_at t 7)) all.1.1.0 in
-    let parts = and_parts _ _ right in
-    let told = and_parts _ _ parts.0 in
-    let first = and_parts _ _ (and_parts _ _ parts.1).0 in
+    let right = all.1.1.0 in
+    let size = all.1.1.1.0 in
     record {
-      some_rows = leb-true _ _ told.0;
-      few_rows = leb-true _ _ told.1;
-      some_first = leb-true _ _ first.0;
-      low_first = leb-true _ _ first.1;
-      long = eqb-true _ _ (not-false (eqb (length t) (8 + 16 * rows_told t)) all.1.1.1.0);
+      some_rows = grind (arith, nat_tests);
+      few_rows = grind (arith, nat_tests);
+      some_first = grind (arith, nat_tests);
+      low_first = grind (arith, nat_tests);
+      long = grind (arith, nat_tests);
     }
 
 module _ (admits : ℕ → ℕ → Bool) (t : List ℕ) where

@@ -1,7 +1,8 @@
 -- The rows of a sound table meet the premises of the laws of past MITL. Assumes nothing.
 use Rattle.std.proofs.Common.{◌≡◌, ℕ, ◌<◌, Bool, true, false, ◌&&◌, eqb, List, length, sym, refl, ap, ◌∙◌, subst, inl, inr, arith}
 use Rattle.std.proofs.lemmas.List.FromFn.{length-map-range_with_len, get_or-map-range_with_len}
-use Rattle.std.proofs.lemmas.Bool.{cases_lt, cases_eq, and_parts, eq-eqb, eqb-true, both_ways}
+use Rattle.std.proofs.lemmas.Bool.{cases_lt, cases_eq, eq-eqb, both_ways}
+use Rattle.std.proofs.lemmas.Bool.Decides.{nat_tests}
 use Rattle.mitl.specs.declared.Row.TheVariants.{Input, Rule}
 use Rattle.mitl.specs.Rows.{row_at, is_rule}
 use Rattle.plan.proofs.Earlier.{row_earlier, row_proper}
@@ -26,8 +27,7 @@ module _ (admits : ℕ → ℕ → Bool) (t : List ℕ) (clear : Clear admits t 
   ruled_at k i l m is =
       let tested : (eqb (fields_at t k).letter 82 && eqb i (fields_at t k).number) ≡ true =
       sym (rule_number_is (numbers_before t k) (fields_at t k) i (fields_at t k).letter) ∙ ap (is_rule i) (sym (row_here k m) ∙ is) ∙ eq-eqb i i refl in
-      let p = and_parts _ _ tested in
-      (eqb-true _ 82 p.0, sym (eqb-true i _ p.1))
+      (grind (arith, nat_tests), grind (arith, nat_tests))
 
   -- of two R rows of one number the second would be refused
   later : (i j k l m : ℕ) → j < k → k < chain_length t → row_at (rows_in t) j ≡ Rule i l → row_at (rows_in t) k ≡ Rule i m → ⊥
