@@ -1,7 +1,7 @@
 -- What the tests on the rows before a place say of the chain and of the bytes. Assumes nothing.
 use Rattle.std.proofs.Common.{◌≡◌, ℕ, ◌<◌, Bool, true, false, cond, not, ◌&&◌, eqb, List, length, get_or, is_some, Some, None, Decides, Option, unwrap_or, sym, refl, ap, ◌∙◌, arith}
 use Rattle.std.proofs.lemmas.List.FromFn.{length-map-range_with_len, get_or-map-range_with_len}
-use Rattle.std.proofs.lemmas.Bool.{both_ways, eq-eqb, eqb-true, and_parts, and_from}
+use Rattle.std.proofs.lemmas.Bool.{both_ways}
 use Rattle.std.proofs.lemmas.Bool.Decides.{nat_tests}
 use Rattle.mitl.specs.declared.Row.TheVariants.{Input}
 use Rattle.mitl.specs.Rows.{row_at, is_rule}
@@ -104,11 +104,11 @@ module _ (t : List ℕ) (i : ℕ) where
         λ y.
             let w = some_at (λ k. is_rule n (row_at (rows_before t i) k)) (length (rows_before t i)) y in
             let l : w.0 < i = omega (arith, w.1, long) in
-            let p = and_parts _ _ (sym (number_at n w.0 l) ∙ w.2) in
-            (w.0, l, eqb-true _ 82 p.0, sym (eqb-true n _ p.1)),
+            let e = number_at n w.0 l in
+            (w.0, l, grind (arith, nat_tests), grind (arith, nat_tests)),
         λ w.
-            some_from (λ k. is_rule n (row_at (rows_before t i) k)) (length (rows_before t i)) w.0 (omega (arith, w.1, long))
-            (number_at n w.0 w.1 ∙ and_from _ _ (eq-eqb _ 82 w.2) (eq-eqb n _ (sym w.3))),
+            let e = number_at n w.0 w.1 in
+            some_from (λ k. is_rule n (row_at (rows_before t i) k)) (length (rows_before t i)) w.0 (omega (arith, w.1, long)) (grind (arith, nat_tests, w.2, w.3)),
       )
 
 pub said : (t : List ℕ) (i : ℕ) → ReadAsSaid t i

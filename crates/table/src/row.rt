@@ -147,8 +147,8 @@ impl Fields {
         requires { (1 ≤ row) × (row_start row + 16 ≤ length bytes.now) }
         ensures { result ≡ fields_of bytes.now row }
     {
-        let rest = &bytes[8 + 16 * (row as usize - 1)..];
-        apart(&rest[..16])
+        let start = 8 + 16 * (row as usize - 1);
+        apart(&bytes[start..start + 16])
     }
 }
 

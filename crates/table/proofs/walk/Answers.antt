@@ -1,4 +1,5 @@
 -- What is left to show for the walk along the chain. Assumes nothing.
+use Rattle.std.proofs.Common.{rules}
 use Rattle.std.proofs.lemmas.Result.{err_from_is_err_and}
 use Rattle.table.specs.Refusals.{of_row}
 use Rattle.table.proofs.Chains.{headed}
@@ -20,9 +21,7 @@ returns-in_err-step g c =
     (of_row c.in_err-step.field-0.0) c.in_err-step.ensures)
 
 pub push-requires : goal.push-requires
-push-requires g c =
-    let l = c.loop-next in
-    room g.A.Admission.admitted c.args.bytes.now (headed _ c.requires.0) l.draft l.next l.invariant c.in-Some.at c.in-Some.is
+push-requires g c = search (rules, room, headed)
 
 pub loop-next-preserved : goal.loop-next-preserved
 loop-next-preserved g c =
@@ -32,6 +31,4 @@ loop-next-preserved g c =
     c.in_ok-step.ensures c.push.new.self c.push.ensures.count c.push.ensures.rows c.push.ensures.numbers
 
 pub returns : goal.returns
-returns g c =
-    let l = c.loop-next in
-    walked g.A.Admission.admitted c.args.bytes.now (headed _ c.requires.0) l.draft l.next l.invariant c.in_default.is
+returns g c = search (rules, walked, headed)
