@@ -19,7 +19,6 @@ use Rattle.refusal.proofs.Firsts.{none_held}
 use Rattle.table.proofs.Numbers.{first_is, first_past}
 
 pub record Headed (t : List ℕ) : Type 0 where
-  pub some_rows : 1 ≤ rows_told t
   pub few_rows : rows_told t ≤ 64
   pub some_first : 1 ≤ first_told t
   pub low_first : first_told t ≤ rows_told t
@@ -31,7 +30,6 @@ headed t e =
     let right = all.1.1.0 in
     let size = all.1.1.1.0 in
     record {
-      some_rows = grind (arith, nat_tests);
       few_rows = grind (arith, nat_tests);
       some_first = grind (arith, nat_tests);
       low_first = grind (arith, nat_tests);

@@ -287,9 +287,7 @@ pub(crate) fn take<A: Admission>(
     ensures { Stepped A.admitted told draft.now bytes.now at result }
 {
     let fields = Fields::of_row(bytes, at);
-    let Ok(letter) = Letter::try_from(fields.letter) else {
-        return Err(RowFault::Letter(at));
-    };
+    let letter = Letter::try_from(fields.letter).map_err(|_| RowFault::Letter(at))?;
     let entry = Entry { letter, fields };
     let row = entry.judged::<A>(draft, told, at)?;
     Ok(Step {
