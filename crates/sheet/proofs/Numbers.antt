@@ -1,5 +1,5 @@
 -- Numbers in a line: they have no space, so that a line is cut in one way. Assumes nothing.
-use Rattle.std.proofs.Common.{◌≡◌, ℕ, zero, suc, ◌^◌, ◌<◌, List, [], ◌∷◌, ◌++◌, length, get_or, drop, Some, None, Ok, Err, IsUtf8, Result, sym, refl, ap, ◌∙◌, subst, ⊎_elim, arith, lit<, length-drop}
+use Rattle.std.proofs.Common.{◌≡◌, ℕ, zero, suc, ◌^◌, ◌<◌, List, [], ◌∷◌, ◌++◌, length, get_or, drop, Some, None, Ok, Err, IsUtf8, Result, MatchResult, sym, refl, ap, ◌∙◌, subst, ⊎_elim, arith, lit<, length-drop}
 use Rattle.std.specs.Result.{result_ok}
 use Rattle.std.specs.List.{AllByRecursion}
 use Rattle.std.proofs.ByRecursion.{All-append, All-from_get_or, IsAscii-from_all}
@@ -46,6 +46,11 @@ line_text n line l =
     let b = All-append low-all l.second (32 ∷ l.third) (low l.second l.word_is.0) (lit< tt, c) in
     let a = All-append low-all l.first (32 ∷ (l.second ++ (32 ∷ l.third))) (low l.first l.car_is.0) (lit< tt, b) in
     IsUtf8-from_ascii line (IsAscii-from_all line (subst (AllByRecursion low-all) (sym l.laid_out) (lit< tt, (lit< tt, a))))
+
+-- bytes that are not text
+pub not_text : {A E : Type 0} (line : List ℕ) (P : A → Type 0) (Q : E → Type 0) (r : Result A E) → None ≡ result_ok r → MatchResult r P (λ e. ¬ IsUtf8 line × Q e) → IsUtf8 line → ⊥
+not_text line P Q (Ok x) none h = absurd (cc)
+not_text line P Q (Err e) none h = h.0
 
 later : (a : ℕ) (s : List ℕ) → Spaceless (a ∷ s) → Spaceless s
 later a s none i l e = none (suc i) (omega arith) e

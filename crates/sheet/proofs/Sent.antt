@@ -1,12 +1,11 @@
 -- From a record that was read to what it tells of. Assumes nothing.
-use Rattle.std.proofs.Common.{◌≡◌, ℕ, true, List, [], ◌∷◌, get_or, Ok, sym, subst}
+use Rattle.std.proofs.Common.{◌≡◌, ℕ, true, List, [], ◌∷◌, get_or, Ok, Option, sym, subst}
 use Rattle.std.proofs.lemmas.Bool.{not-false}
 use Rattle.refusal.proofs.Held.{none_parts}
 use Rattle.record.specs.declared.Record.{Record}
+use Rattle.record.specs.declared.Note.{Note}
 use Rattle.record.specs.Layout.{fields_at, field_faults, apart_faults, letter_fault, zero_fault, car_fault, length_fault, word_fault, word_ok}
 use Rattle.record.specs.Replies.{Read}
-use Rattle.sheet.specs.declared.Piece.{Piece}
-use Rattle.sheet.specs.declared.Piece.TheVariants.{Verdict, Other, DamagedLine, DamagedRecord}
 use Rattle.sheet.specs.Pieces.{OfRecord, RecordPiece}
 
 -- a record that was read has a sound word
@@ -21,8 +20,5 @@ word_sound bytes r h =
     let off = (none_parts (word_fault f.letter f.word) [] words).0 in
     subst (λ s. word_ok s.letter s.word ≡ true) (sym h.2) (not-false _ off)
 
-pub piece_from : (bytes : List ℕ) (r : Record) → Read bytes (Ok r) → (p : Piece) → OfRecord r p → RecordPiece bytes p
-piece_from bytes r h (Verdict n) o = (h.0, subst (λ s. OfRecord s (Verdict n)) h.2 o)
-piece_from bytes r h Other o = (h.0, subst (λ s. OfRecord s Other) h.2 o)
-piece_from bytes r h DamagedLine o = o
-piece_from bytes r h (DamagedRecord e) o = absurd o
+pub record_told : (bytes : List ℕ) (r : Record) → Read bytes (Ok r) → (told : Option Note) → OfRecord r told → RecordPiece bytes (Ok told)
+record_told bytes r h told o = (h.0, subst (λ s. OfRecord s told) h.2 o)

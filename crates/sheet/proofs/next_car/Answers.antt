@@ -1,14 +1,13 @@
-use Rattle.std.proofs.Common.{subst, arith}
-use Rattle.std.proofs.lemmas.List.{take_all}
+use Rattle.std.proofs.Common.{refl, sym, subst, rules, ltb}
+use borrow.Author.Tests.{tests}
+use Rattle.std.proofs.lemmas.Iterator.{YieldsList-from_slice, YieldsList-from_map}
+use Rattle.std.proofs.lemmas.Iterator.Consumers.{YieldsList-from_filter, YieldsList-at, reduce_from_yields_List}
 use Rattle.sheet.specs.Rows.{Next}
-use Rattle.sheet.proofs.Lowest.{next_more}
+use Rattle.std.proofs.lemmas.Cmp.{ranked}
+use Rattle.sheet.proofs.Lowest.{picked, next_is}
 use Rattle.sheet.proofs.next_car.Goals as goal
 
-pub loop-note-init : goal.loop-note-init
-loop-note-init c = tt
-
-pub loop-note-preserved : goal.loop-note-preserved
-loop-note-preserved c = next_more c.args.notes.now c.loop-note.note-index _ c.args.above (omega arith) c.loop-note.next c.lower-next.result c.loop-note.invariant c.lower-next.ensures
-
 pub returns : goal.returns
-returns c = subst (λ ns. Next ns c.args.above c.loop-note.next) (take_all c.loop-note.note-index c.args.notes.now c.loop-note-test.false) c.loop-note.invariant
+returns c =
+    let least = reduce_from_yields_List _ c.filter.result c.min.result c.min.ensures.ran (YieldsList-from_filter _ (λ d. ltb c.args.above d.number) (YieldsList-at c.filter.ensures.source (YieldsList-from_map _ (λ n. n.car) (YieldsList-at c.map.ensures.source (YieldsList-from_slice c.args.notes.now (cc))) c.map.ensures.closure (λ x r q k. search (rules, tests)))) c.filter.ensures.closure (λ x b q k. search (rules, tests))) in
+    subst (Next c.args.notes.now c.args.above) (sym least) (next_is c.args.above _ (λ p z. picked _ p z (ranked p.number z.number _ refl)) c.args.notes.now)

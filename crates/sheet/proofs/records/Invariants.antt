@@ -1,10 +1,8 @@
-use Rattle.std.proofs.Common.{length, vec_items}
+use Rattle.std.proofs.Common.{◌≡◌, vec_items}
+use Rattle.std.specs.Slice.Iter.{chunks_rest, chunks_size}
 use Rattle.sheet.specs.Pieces.{Records}
 use Rattle.sheet.proofs.Grown.{Grown}
 use Rattle.sheet.proofs.records.Given as goal
 
-abbrev pub invariant-loop-rest : goal.invariant-loop-rest
-invariant-loop-rest l = Grown Records l.bytes (vec_items l.found) l.rest
-
-abbrev pub decreases-loop-rest : goal.decreases-loop-rest
-decreases-loop-rest l = length l.rest
+abbrev pub invariant-loop-sent : goal.invariant-loop-sent
+invariant-loop-sent l = (chunks_size l.sent-iterator ≡ 12) × Grown Records l.bytes (vec_items l.found) (chunks_rest l.sent-iterator)
