@@ -3,4 +3,4 @@ pub mod Kept
 pub mod Lowest
 pub mod Spaces
 pub mod Numbers
-pub mod Grown
+pub mod Collected

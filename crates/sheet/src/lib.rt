@@ -141,22 +141,17 @@ fn without_end(line: &[u8]) -> &[u8]
 fn lines(heap: Global, bytes: &[u8]) -> Result<Vec<Piece>, AllocError>
     ensures { IfOk result (λ v. Lines bytes.now v.items) }
 {
-    let mut found = Vec::new(heap);
-    for line in bytes.split_inclusive(|byte| *byte == b'\n') {
-        found.push(line_piece(without_end(line)))?;
-    }
-    Ok(found)
+    bytes
+        .split_inclusive(|byte| *byte == b'\n')
+        .map(|line| line_piece(without_end(line)))
+        .collect(heap)
 }
 
 // The pieces of records, twelve bytes by twelve.
 fn records(heap: Global, bytes: &[u8]) -> Result<Vec<Piece>, AllocError>
     ensures { IfOk result (λ v. Records bytes.now v.items) }
 {
-    let mut found = Vec::new(heap);
-    for sent in bytes.chunks(RECORD) {
-        found.push(record_piece(sent))?;
-    }
-    Ok(found)
+    bytes.chunks(RECORD).map(record_piece).collect(heap)
 }
 
 // Whether the input is records: the second byte of a record is zero, and a text has no such byte.
@@ -187,15 +182,33 @@ pub fn notes_of(heap: Global, pieces: &[Piece]) -> Result<Vec<Note>, AllocError>
         .collect(heap)
 }
 
-// The lowest car above a number.
-pub fn next_car(notes: &[Note], above: u16) -> Option<Car>
-    ensures { Next notes.now above result }
+// The lowest car of the notes that is above a number.
+fn lowest_above(notes: &[Note], number: u16) -> Option<Car>
+    ensures { Next notes.now number result }
 {
     notes
         .iter()
         .map(|note| note.car)
-        .filter(|car| car.number > above)
+        .filter(|car| car.number > number)
         .min()
+}
+
+// The lowest car above a number.
+pub fn next_car(notes: &[Note], above: u16) -> Option<Car>
+    ensures { Next notes.now above result }
+{
+    lowest_above(notes, above)
+}
+
+// The notes of a car, in their order.
+fn notes_by(heap: Global, notes: &[Note], car: Car) -> Result<Vec<Note>, AllocError>
+    ensures { IfOk result (λ v. v.items ≡ filter (of_car car) notes.now) }
+{
+    notes
+        .iter()
+        .filter(|note| note.car == car)
+        .copied()
+        .collect(heap)
 }
 
 // The car's own notes, in their order, which have the same shares for it.
@@ -203,11 +216,7 @@ pub fn own_notes(heap: Global, notes: &[Note], car: Car) -> Result<Vec<Note>, Al
     ensures items { IfOk result (λ v. v.items ≡ filter (of_car car) notes.now) }
     ensures shares { IfOk result (λ v. SameShares v.items notes.now car) }
 {
-    notes
-        .iter()
-        .filter(|note| note.car == car)
-        .copied()
-        .collect(heap)
+    notes_by(heap, notes, car)
 }
 
 // A car's row.
