@@ -1,4 +1,3 @@
-pub mod Sent
 pub mod Kept
 pub mod Lowest
 pub mod Spaces
