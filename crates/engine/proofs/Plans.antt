@@ -7,6 +7,8 @@ use Rattle.mitl.specs.declared.Row.TheVariants.{Input, Not, And, Or, Once, Alway
 use Rattle.mitl.specs.Rows.{Earlier, Chained, row_at, is_timed, timed_before, timed_rows}
 use Rattle.mitl.specs.Blocks.{Proper}
 use Rattle.mitl.specs.Windows.{sound_window}
+use Rattle.plan.specs.declared.plan.Plan.{Plan}
+use Rattle.plan.specs.Rows.{rows_of}
 use Rattle.plan.specs.Sound.{is_a_rule, operand_ok, row_ok, EachOk}
 use Rattle.engine.specs.Steps.{Readable}
 
@@ -66,8 +68,8 @@ module _ (rows : List Row) (n : ℕ) (few : n ≤ 64) (each : EachOk rows n) whe
   pub used_proper : (k : ℕ) → k < length (take n rows) → Proper (row_at (take n rows) k)
   used_proper k lt = let low : k < n = omega (arith, used_most) in subst Proper (sym (used_row k low)) (ok_proper rows k (row_at rows k) (each k low))
 
-  pub used_readable : (k : ℕ) → k < n → Readable (row_at rows k)
-  used_readable k lt = ok_readable rows k (row_at rows k) (omega arith) (each k lt)
+  pub used_readable : (k : ℕ) → k < n → Readable (row_at (take n rows) k)
+  used_readable k lt = subst Readable (sym (used_row k lt)) (ok_readable rows k (row_at rows k) (omega arith) (each k lt))
 
 -- timed rows, one after another
 one_more : (r : Row) → cond (is_timed r) 1 0 ≤ 1
@@ -110,8 +112,21 @@ timed_all rows (suc k) le =
       | inr more ↦ ap (λ b. cond b 1 0 + timed_before rows k) (beyond rows k more) ∙ zero-add (timed_before rows k) ∙ timed_all rows k more
     ]
 
-module _ (rows : List Row) (n : ℕ) (few : n ≤ 64) (each : EachOk rows n) where
-  -- the memory of a row in use lies among those of the timed rows
-  pub used_place : (k : ℕ) → k < n → is_timed (row_at rows k) ≡ true → timed_before (take n rows) k < timed_rows (take n rows)
-  used_place k lt timed =
-      omega (arith, timed_past (take n rows) k n lt (ap is_timed (used_row rows n few each k lt) ∙ timed), timed_all (take n rows) n (used_most rows n few each))
+-- a row that a plan gives along its chain
+module _ (p : Plan) (rows : List Row) (is : rows ≡ rows_of p) (k : ℕ) (lt : k < length rows) where
+  pub given_low : k < p.count
+  given_low = omega (arith, lt, ap length is, used_most p.rows p.count p.few p.each)
+
+  pub given_earlier : (j : ℕ) → j < k + 1 → Earlier j (row_at (rows_of p) j)
+  given_earlier j low = used_earlier p.rows p.count p.few p.each j (omega (arith, given_low))
+
+  pub given_readable : Readable (row_at rows k)
+  given_readable = subst (λ rs. Readable (row_at rs k)) (sym is) (used_readable p.rows p.count p.few p.each k given_low)
+
+  -- its memory lies among those of the timed rows
+  pub given_place : (at : ℕ) → at ≡ timed_before (rows_of p) k → is_timed (row_at rows k) ≡ true → at < timed_rows (rows_of p)
+  given_place at place timed =
+      omega (arith, place, timed_past (rows_of p) k (length (rows_of p)) (omega (arith, lt, ap length is)) (ap (λ rs. is_timed (row_at rs k)) (sym is) ∙ timed))
+
+  pub given_early : (at : ℕ) → at ≡ timed_before (rows_of p) k → at < 64
+  given_early at place = omega (arith, place, timed_most (rows_of p) k, given_low, p.few)

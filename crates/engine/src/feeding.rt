@@ -5,7 +5,6 @@ ghost use Rattle.engine.specs.Judged.{Bounded, Judged, idle};
 ghost use Rattle.engine.specs.Means.{Means};
 
 use crate::Fed;
-use crate::advance::timed;
 use crate::reading::next;
 use crate::running::run;
 use plan::plan::Plan;
@@ -16,7 +15,7 @@ use window::WindowMemory;
 pub(crate) fn is_idle<M: WindowMemory>(plan: &Plan, ticks: u32, part: &[M], notes: &[Note]) -> bool
     ensures { result ≡ idle (rows_of plan.now) ticks part.now notes.now }
 {
-    ticks == 0 || notes.len() == 0 || part.len() < timed(plan)
+    ticks == 0 || notes.len() == 0 || part.len() < plan.timed()
 }
 
 // Whether another run is written: there are ticks left and a place.

@@ -18,7 +18,7 @@ mod reading;
 mod running;
 mod word;
 
-use advance::{clear_first, timed};
+use advance::clear_first;
 use feeding::{fill, is_idle};
 use plan::plan::Plan;
 use record::{Car, Note};
@@ -36,7 +36,7 @@ pub fn clear<M: WindowMemory>(plan: &Plan, part: &mut [M])
     ensures memories { Changed M.meaning cleared (timed_rows (rows_of plan.now)) part.old part.new }
     ensures means { (h : List ℕ) → Means M.meaning (rows_of plan.now) part.old h → Means M.meaning (rows_of plan.now) part.new [] }
 {
-    let end = timed(plan).min(part.len());
+    let end = plan.timed().min(part.len());
     clear_first(part, end);
 }
 

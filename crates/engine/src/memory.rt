@@ -1,4 +1,4 @@
-//! One memory of a car's part: asked in its place, and told by copying it out and storing it back.
+//! One memory of a car's part, asked and told in its place.
 ghost use Rattle.std.specs.Prelude.{◌<◌, false, not, ◌&&◌, length, if◌then◌else◌};
 ghost use Rattle.mitl.specs.Memory.{cleared, took, ahead, Lasts};
 ghost use Rattle.engine.specs.Steps.{meant, Told};
@@ -44,9 +44,7 @@ pub(crate) fn take_at<M: WindowMemory>(part: &mut [M], at: usize, operand: bool,
     requires { at < length part.old }
     ensures { Told M.meaning (took operand n) at part.old part.new }
 {
-    let mut m = part[at];
-    m.take(operand, n);
-    part[at] = m;
+    part[at].take(operand, n);
 }
 
 // The memory at this place is cleared.
@@ -54,9 +52,7 @@ pub(crate) fn clear_at<M: WindowMemory>(part: &mut [M], at: usize)
     requires { at < length part.old }
     ensures { Told M.meaning cleared at part.old part.new }
 {
-    let mut m = part[at];
-    m.clear();
-    part[at] = m;
+    part[at].clear();
 }
 
 // B takes the opposite of the left reading.
