@@ -6,7 +6,8 @@ ghost use Rattle.engine.specs.Steps.{meant, Told};
 use crate::lasting::turned;
 use window::WindowMemory;
 
-// The verdict of the memory at this place, and for how long it lasts, while its operand keeps this value.
+// The verdict of the memory at this place, and for how long it lasts, while its operand keeps this value: the pair that
+// a memory's `run` answers.
 pub(crate) fn run_at<M: WindowMemory>(part: &[M], at: usize, operand: bool) -> (bool, Option<u32>)
     requires { at < length part.now }
     ensures { Lasts (ahead (meant M.meaning part.now at).a operand (meant M.meaning part.now at).mark) result.0 result.1 }

@@ -3,7 +3,7 @@ ghost use Rattle.std.specs.Prelude.{◌≡◌, ◌+◌, ◌<◌, ◌≤◌, true
 ghost use Rattle.mitl.specs.Memory.{Lasts};
 ghost use Rattle.mitl.specs.Rows.{is_timed, timed_rows};
 ghost use Rattle.plan.specs.Rows.{rows_of};
-ghost use Rattle.engine.specs.Steps.{Foreseen, Readable, meant, reading as reading_of, seen};
+ghost use Rattle.engine.specs.Steps.{Foresees, Readable, meant, reading as reading_of, seen};
 
 use crate::lasting::shorter_of;
 use crate::memory::{run_always, run_at, run_since};
@@ -58,7 +58,7 @@ pub(crate) struct Step {
 #[tactic(auto, using(crate::proofs::Plans::given_readable, crate::proofs::Plans::given_early, crate::proofs::Plans::given_place))]
 pub(crate) fn next<M: WindowMemory>(plan: &Plan, word: u32, part: &[M]) -> Step
     requires { timed_rows (rows_of plan.now) ≤ length part.now }
-    ensures { Foreseen M.meaning (rows_of plan.now) word part.now (length (rows_of plan.now)) result.readings result.word result.lasts }
+    ensures { Foresees M.meaning (rows_of plan.now) word part.now result }
 {
     let mut readings = [false; 64];
     let mut verdict = 0;

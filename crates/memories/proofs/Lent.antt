@@ -1,10 +1,10 @@
 -- A part of a list that was lent and is back. Assumes nothing.
-use Rattle.std.proofs.Common.{◌≡◌, ℕ, ◌+◌, ◌-◌, ◌*◌, ◌<◌, ◌≤◌, min, Bool, ◌⊎◌, List, [], length, get_or, take, drop, sym, refl, ap, ◌∙◌, subst, ap₂, inl, inr, mul-le-mul_right, add-mul, one-mul, mul-zero, arith, length-drop, length-take}
+use Rattle.std.proofs.Common.{◌≡◌, ℕ, ◌+◌, ◌-◌, ◌*◌, ◌<◌, ◌≤◌, min, Bool, ◌⊎◌, List, [], length, get_or, take, drop, sym, refl, ap, ◌∙◌, subst, ap₂, inl, inr, mul-le-mul_right, add-mul, one-mul, arith, length-drop, length-take}
 use borrow.Rule.Slice.PartMut.{put_mid, same_len_mid, mid_len}
 use Rattle.std.specs.List.{between}
 use Rattle.std.proofs.lemmas.List.{get_or_append_left, get_or-append_right, get_or-take, get_or-drop, length-take-le, same_lists}
 use Rattle.std.proofs.lemmas.Slice.{between-put_mid}
-use Rattle.std.proofs.lemmas.Bool.{cases_lt, cases_eq}
+use Rattle.std.proofs.lemmas.Bool.{cases_lt, cases_eq, le-leb}
 use Rattle.mitl.specs.declared.Row.{Row}
 use Rattle.mitl.specs.Memory.{Meaning, clean}
 use Rattle.mitl.specs.Rows.{Chained, timed_rows, formula_at, formulas}
@@ -14,7 +14,7 @@ use Rattle.record.specs.declared.Note.{Note}
 use Rattle.engine.specs.declared.Fed.{Fed}
 use Rattle.engine.specs.Means.{Means}
 use Rattle.engine.specs.Judged.{Judged}
-use Rattle.memories.specs.Parts.{part_at, OnlyPart, Admitted, Readied, CarCleared, CarFed, CarPrepared, Prepared}
+use Rattle.memories.specs.Parts.{part_at, OnlyPart, Admitted, CarCleared, CarFed, CarPrepared, Prepared}
 
 module _ {X : Type 0} (a e : ℕ) (xs ys : List X) (order : a ≤ e) (within : e ≤ length xs) (size : length ys ≡ length (between a e xs)) where
   abbrev put : List X
@@ -93,15 +93,6 @@ lent_back n i from to ms ys starts ends within size =
 pub same_only : {X : Type 0} (n i : ℕ) (ms : List X) → OnlyPart n i ms ms
 same_only n i ms = record { long = refl; elsewhere = λ k m away. refl }
 
--- a car whose part does not lie within the list has not enough memories
-pub no_part : {X : Type 0} (meaning : X → Meaning) (rows : List Row) (i : ℕ) (ms : List X) (h : List ℕ) → length ms < i * timed_rows rows + timed_rows rows → Means meaning rows (part_at (timed_rows rows) i ms) h → ⊥
-no_part meaning rows i ms h short means =
-    let n = timed_rows rows in
-    elim (cases_eq n 0) [
-      | inl none ↦ (let start : i * n ≡ 0 = ap (λ k. i * k) none ∙ mul-zero i in omega arith)
-      | inr some ↦ omega (arith, means.enough, length-take (i * n + n - i * n) (drop (i * n) ms), length-drop (i * n) ms)
-    ]
-
 module _ {X : Type 0} (meaning : X → Meaning) (rows : List Row) (i from to : ℕ) (ms ys : List X) (back : Back (timed_rows rows) i from to ms ys) where
   pub cleared_back : ((h : List ℕ) → Means meaning rows (between from to ms) h → Means meaning rows ys []) → CarCleared meaning rows i ms (put_mid from (to - from) ms ys)
   cleared_back told = record {
@@ -121,40 +112,31 @@ module _ {X : Type 0} (meaning : X → Meaning) (rows : List Row) (i from to : �
         (subst (λ xs. Judged meaning rows h c w n xs ns ys ns' reply) (sym back.was) (told h (subst (λ xs. Means meaning rows xs h) back.was means)));
   }
 
-  pub prepared_back : (admitted : ℕ → ℕ → Bool) → Chained rows → to ≡ i * timed_rows rows + timed_rows rows → from ≡ i * timed_rows rows → to ≤ length ms
-      → (j : ℕ) → length rows ≤ j → Readied meaning admitted rows j (between from to ms) ys → CarPrepared meaning admitted rows i ms (put_mid from (to - from) ms ys)
-  prepared_back admitted chained ends starts within j all r = record {
-    only = back.only;
-    ready = λ admits enough. subst (λ xs. Means meaning rows xs []) (sym back.now_is) (ready admits);
-  }
-    where
-      size : length (between from to ms) ≡ to - from
-      size = mid_len from to ms within
-
-      many : timed_rows rows ≤ length (between from to ms)
-      many = omega (arith, size)
-
-      ready : Admitted admitted rows → Means meaning rows ys []
-      ready admits = record {
-        enough = omega (arith, many, r.long);
-        outlooks = λ p m lt timed.
-            r.there admits many p m (omega arith) lt timed
-            ∙ sym (ap₂ clean (row_window rows chained p lt timed).0 (row_window rows chained p lt timed).1)
-            ∙ sym (outlook_fresh (formula_at (formulas rows) p));
-      }
+-- a prepared part means the empty history
+pub car_ready : {X : Type 0} (meaning : X → Meaning) (admitted : ℕ → ℕ → Bool) (rows : List Row) (i : ℕ) (ms ms' : List X) → Chained rows → CarPrepared meaning admitted rows i ms ms'
+    → Admitted admitted rows → i * timed_rows rows + timed_rows rows ≤ length ms → Means meaning rows (part_at (timed_rows rows) i ms') []
+car_ready meaning admitted rows i ms ms' chained car admits enough =
+    let n = timed_rows rows in
+    record {
+      enough = omega (arith, enough, car.only.long, length-take (i * n + n - i * n) (drop (i * n) ms'), length-drop (i * n) ms');
+      outlooks = λ p m lt timed.
+          (car.whole (le-leb (i * n + n) (length ms) enough) p m lt timed).served (admits p lt timed)
+          ∙ sym (ap₂ clean (row_window rows chained p lt timed).0 (row_window rows chained p lt timed).1)
+          ∙ sym (outlook_fresh (formula_at (formulas rows) p));
+    }
 
 -- one car after another
 module _ {X : Type 0} (meaning : X → Meaning) (admitted : ℕ → ℕ → Bool) (rows : List Row) (ms : List X) where
   pub prepared_none : Prepared meaning admitted rows 0 ms ms
   prepared_none = record { long = refl; ready = λ _ _ i lt. absurd (omega arith); past = λ k m le. refl }
 
-  pub prepared_more : (n : ℕ) (xs ys : List X) → Prepared meaning admitted rows n ms xs → CarPrepared meaning admitted rows n xs ys → Prepared meaning admitted rows (n + 1) ms ys
-  prepared_more n xs ys p c = record {
+  pub prepared_more : Chained rows → (n : ℕ) (xs ys : List X) → Prepared meaning admitted rows n ms xs → CarPrepared meaning admitted rows n xs ys → Prepared meaning admitted rows (n + 1) ms ys
+  prepared_more chained n xs ys p c = record {
     long = c.only.long ∙ p.long;
     ready = λ admits enough i lt.
         let more : n * timed_rows rows + timed_rows rows ≤ length ms = omega (arith, enough, add-mul n 1 (timed_rows rows), one-mul (timed_rows rows)) in
         elim (cases_eq i n) [
-          | inl is ↦ subst (λ j. Means meaning rows (part_at (timed_rows rows) j ys) []) (sym is) (c.ready admits (omega (arith, p.long, more)))
+          | inl is ↦ subst (λ j. Means meaning rows (part_at (timed_rows rows) j ys) []) (sym is) (car_ready meaning admitted rows n xs ys chained c admits (omega (arith, p.long, more)))
           | inr not ↦ subst (λ zs. Means meaning rows zs []) (sym (other_part (timed_rows rows) n i xs ys c.only not)) (p.ready admits (omega (arith, more)) i (omega arith))
         ];
     past = λ k m le.

@@ -16,8 +16,8 @@ returns-in-Some g c =
     let back = lent_back (timed_rows rows) c.args.at from to ms c.feed.new.part s.0 s.1 s.2 c.feed.auto.part in
     let engine = c.feed.ensures in
     record {
-      fed = fed_back g.M.WindowMemory.meaning rows c.args.at from to ms c.feed.new.part back c.args.car c.args.word c.args.ticks c.args.notes.now c.feed.new.notes c.feed.result
+      fed = fed_back g.M.WindowMemory.meaning rows c.args.at from to ms c.feed.new.part back c.args.inputs.car c.args.inputs.word c.args.inputs.ticks c.args.notes.now c.feed.new.notes c.feed.result
           engine.bounded.places_length engine.bounded.rest engine.judged;
-      exactly = told_back g.M.WindowMemory.meaning rows c.args.at from to ms c.feed.new.part back s.1 s.2 c.args.car c.args.word c.args.ticks c.args.notes.now c.feed.new.notes c.feed.result
+      exactly = told_back g.M.WindowMemory.meaning rows c.args.at from to ms c.feed.new.part back s.1 s.2 c.args.inputs.car c.args.inputs.word c.args.inputs.ticks c.args.notes.now c.feed.new.notes c.feed.result
           (record { unfed = engine.unfed; bounded = engine.bounded; judged = engine.judged });
     }
