@@ -1,47 +1,46 @@
 -- What becomes of a car's part exactly. Assumes nothing.
-use Rattle.std.proofs.Common.{◌≡◌, ℕ, ◌+◌, ◌-◌, ◌*◌, ◌<◌, ◌≤◌, Bool, true, false, ◌⊎◌, List, length, get_or, sym, refl, ap, ◌∙◌, subst, inl, inr, mul-le-mul_right, arith}
-use borrow.Rule.Slice.PartMut.{put_mid, mid_len}
+use Rattle.std.proofs.Common.{◌≡◌, ℕ, ◌+◌, ◌-◌, ◌*◌, ◌<◌, ◌≤◌, Bool, true, false, ◌⊎◌, List, [], length, get_or, sym, refl, ap, ◌∙◌, subst, inl, inr, mul-le-mul_right, arith}
+use borrow.Rule.Slice.PartMut.{put_mid}
 use Rattle.std.specs.List.{between}
-use Rattle.std.proofs.lemmas.Bool.{both_ways, cases_lt, cases_eq, leb-false, le-leb, lt-leb}
+use Rattle.std.proofs.lemmas.Bool.{both_ways, cases_lt, cases_eq, leb-false, lt-leb}
 use Rattle.mitl.specs.declared.Row.{Row}
 use Rattle.mitl.specs.Memory.{Meaning, cleared}
 use Rattle.mitl.specs.Rows.{timed_rows}
 use Rattle.record.specs.declared.Car.{Car}
 use Rattle.record.specs.declared.Note.{Note}
 use Rattle.engine.specs.declared.Fed.{Fed}
-use Rattle.engine.specs.Means.{Changed}
-use Rattle.memories.specs.Parts.{part_at, within, CarPrepared, Prepared, Readied, ReadyRows}
+use Rattle.engine.specs.Means.{Changed, Means}
+use Rattle.engine.specs.Judged.{Judged}
+use Rattle.memories.specs.Parts.{part_at, within, CarCleared, CarFed, CarPrepared, Prepared, Readied, ReadyRows}
 use Rattle.memories.specs.Exact.{AllReadied, CarEmptied, PartFed, CarTold}
-use Rattle.memories.proofs.Lent.{Back, same_part, other_part}
+use Rattle.memories.proofs.Lent.{Back, on_part, same_part, other_part}
 
--- what holds of the part that was lent, before and after, holds of the car's part
-on_part : {X : Type 0} (n i from to : ℕ) (ms ys : List X) → Back n i from to ms ys → (P : List X → List X → Type 0) → P (between from to ms) ys
-    → P (part_at n i ms) (part_at n i (put_mid from (to - from) ms ys))
-on_part n i from to ms ys back P holds = subst (λ zs. P (part_at n i ms) zs) (sym back.now_is) (subst (λ zs. P zs ys) (sym back.was) holds)
-
--- a car's part lies within the list
-module _ {X : Type 0} (meaning : X → Meaning) (rows : List Row) (i from to : ℕ) (ms ys : List X) (back : Back (timed_rows rows) i from to ms ys)
-    (ends : to ≡ i * timed_rows rows + timed_rows rows) (inside : to ≤ length ms) where
-  on : within (timed_rows rows) i (length ms) ≡ true
-  on = le-leb (i * timed_rows rows + timed_rows rows) (length ms) (omega arith)
-
-  pub prepared_back : (admitted : ℕ → ℕ → Bool) → from ≡ i * timed_rows rows → Readied meaning admitted rows (length rows) (between from to ms) ys
-      → CarPrepared meaning admitted rows i ms (put_mid from (to - from) ms ys)
-  prepared_back admitted starts told = record {
+-- the part of a car, lent and back
+module _ {X : Type 0} (meaning : X → Meaning) (rows : List Row) (i from to : ℕ) (ms ys : List X) (back : Back (timed_rows rows) i from to ms ys) where
+  pub prepared_back : (admitted : ℕ → ℕ → Bool) → Readied meaning admitted rows (length rows) (between from to ms) ys → CarPrepared meaning admitted rows i ms (put_mid from (to - from) ms ys)
+  prepared_back admitted told = record {
     only = back.only;
-    whole = λ _. on_part (timed_rows rows) i from to ms ys back (ReadyRows meaning admitted rows (length rows)) (told.there (omega (arith, mid_len from to ms inside)));
-    short = λ off. absurd (both_ways _ off on);
+    whole = λ _. on_part _ _ _ _ _ _ back (ReadyRows meaning admitted rows (length rows)) (told.there (omega (arith, back.many)));
+    short = λ off. absurd (both_ways _ off back.inside);
   }
+
+  pub cleared_back : ((h : List ℕ) → Means meaning rows (between from to ms) h → Means meaning rows ys []) → CarCleared meaning rows i ms (put_mid from (to - from) ms ys)
+  cleared_back told = record { only = back.only; means = on_part _ _ _ _ _ _ back (λ xs zs. (h : List ℕ) → Means meaning rows xs h → Means meaning rows zs []) told }
 
   pub emptied_back : Changed meaning cleared (timed_rows rows) (between from to ms) ys → CarEmptied meaning rows i ms (put_mid from (to - from) ms ys)
-  emptied_back told = record { whole = λ _. on_part (timed_rows rows) i from to ms ys back (Changed meaning cleared (timed_rows rows)) told; short = λ off. absurd (both_ways _ off on) }
+  emptied_back told = record { whole = λ _. on_part _ _ _ _ _ _ back (Changed meaning cleared (timed_rows rows)) told; short = λ off. absurd (both_ways _ off back.inside) }
 
-  pub told_back : (c : Car) (w n : ℕ) (ns ns' : List Note) (reply : Fed) → PartFed meaning rows c w n (between from to ms) ns ys ns' reply
-      → CarTold meaning rows i c w n ms ns (put_mid from (to - from) ms ys) ns' reply
-  told_back c w n ns ns' reply told = record {
-    whole = λ _. on_part (timed_rows rows) i from to ms ys back (λ xs zs. PartFed meaning rows c w n xs ns zs ns' reply) told;
-    short = λ off. absurd (both_ways _ off on);
-  }
+  module _ (c : Car) (w n : ℕ) (ns ns' : List Note) (reply : Fed) (told : PartFed meaning rows c w n (between from to ms) ns ys ns' reply) where
+    pub fed_back : CarFed meaning rows i c w n ms ns (put_mid from (to - from) ms ys) ns' reply
+    fed_back = record {
+      only = back.only;
+      places = told.bounded.places_length;
+      rest = told.bounded.rest;
+      judged = on_part _ _ _ _ _ _ back (λ xs zs. (h : List ℕ) → Means meaning rows xs h → Judged meaning rows h c w n xs ns zs ns' reply) told.judged;
+    }
+
+    pub told_back : CarTold meaning rows i c w n ms ns (put_mid from (to - from) ms ys) ns' reply
+    told_back = record { whole = λ _. on_part _ _ _ _ _ _ back (λ xs zs. PartFed meaning rows c w n xs ns zs ns' reply) told; short = λ off. absurd (both_ways _ off back.inside) }
 
 -- one car after another
 module _ {X : Type 0} (meaning : X → Meaning) (admitted : ℕ → ℕ → Bool) (rows : List Row) (ms : List X) where

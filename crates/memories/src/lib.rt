@@ -35,7 +35,8 @@ fn window_of(row: Row) -> Option<(u32, u32)>
     }
 }
 
-// Where the part of the car at this place begins and ends, if the list is that long.
+// Where the part of the car at this place begins and ends, if the list is that long. The callers lend the part
+// themselves: of notes that a closure holds nothing would be known where it is not called.
 fn span(at: usize, timed: usize, len: usize) -> Option<(usize, usize)>
     ensures { Spanned at timed len result }
 {
