@@ -6,6 +6,7 @@ ghost use Rattle.std.specs.Prelude.{◌≡◌, ℕ, ◌<◌, ◌≤◌, Bool, tr
 ghost use Rattle.cars.specs.Cars.{same_car, has_at_lem, listed, no_car, place_of, cars_of, no_slot, Added, Filled};
 ghost use Rattle.cars.specs.Moves.{Moved, MovedAt, Recorded};
 ghost use Rattle.cars.specs.Refusals.{of_car, of_feed, of_list, Listed, Placed};
+ghost use Rattle.cars.specs.declared.FeedFault.TheVariants.{Record as OfRecord, Car as OfCar};
 
 use record::{Car, RecordFault};
 use refusal::Refusal;
@@ -27,13 +28,13 @@ pub enum CarFault {
     NoTimedRow(u8),
 }
 
-impl CarFault {
-    pub fn refusal(self) -> Refusal
-        ensures { result ≡ of_car self }
-    {
-        match self {
-            CarFault::NotListed(car) => Refusal::new(17, u32::from(car.number)),
-            CarFault::NotRunning(car) => Refusal::new(18, u32::from(car.number)),
+impl From<CarFault> for Refusal {
+    ghost from_gives = { λ x r. r ≡ of_car x };
+
+    fn from(fault: CarFault) -> Refusal {
+        match fault {
+            CarFault::NotListed(car) => Refusal::new(17, car.place()),
+            CarFault::NotRunning(car) => Refusal::new(18, car.place()),
             CarFault::NoPlace => Refusal::new(19, 0),
             CarFault::NoTimedRow(row) => Refusal::new(20, u32::from(row)),
         }
@@ -47,13 +48,29 @@ pub enum FeedFault {
     Car(CarFault),
 }
 
-impl FeedFault {
-    pub fn refusal(self) -> Refusal
-        ensures { result ≡ of_feed self }
-    {
-        match self {
-            FeedFault::Record(fault) => fault.refusal(),
-            FeedFault::Car(fault) => fault.refusal(),
+impl From<RecordFault> for FeedFault {
+    ghost from_gives = { λ x r. r ≡ OfRecord x };
+
+    fn from(fault: RecordFault) -> FeedFault {
+        FeedFault::Record(fault)
+    }
+}
+
+impl From<CarFault> for FeedFault {
+    ghost from_gives = { λ x r. r ≡ OfCar x };
+
+    fn from(fault: CarFault) -> FeedFault {
+        FeedFault::Car(fault)
+    }
+}
+
+impl From<FeedFault> for Refusal {
+    ghost from_gives = { λ x r. r ≡ of_feed x };
+
+    fn from(fault: FeedFault) -> Refusal {
+        match fault {
+            FeedFault::Record(fault) => fault.into(),
+            FeedFault::Car(fault) => fault.into(),
         }
     }
 }
@@ -65,11 +82,11 @@ pub enum ListFault {
     Position(u8),
 }
 
-impl ListFault {
-    pub fn refusal(self) -> Refusal
-        ensures { result ≡ of_list self }
-    {
-        match self {
+impl From<ListFault> for Refusal {
+    ghost from_gives = { λ x r. r ≡ of_list x };
+
+    fn from(fault: ListFault) -> Refusal {
+        match fault {
             ListFault::Size => Refusal::new(12, 0),
             ListFault::Position(place) => Refusal::new(12, u32::from(place)),
         }

@@ -52,7 +52,7 @@ fn tell<W: Write>(out: &mut W, fed: Fed, part: Record, notes: &[Note]) -> io::Re
 
 fn tell_fault<W: Write>(out: &mut W, fault: FeedFault) -> io::Result<()> {
     let mut line = Text::new();
-    line.set_refusal(fault.refusal());
+    line.set_refusal(fault.into());
     line.send(out)
 }
 

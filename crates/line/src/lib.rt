@@ -137,7 +137,7 @@ pub fn serve<M: WindowMemory, R: Read + Drop, W: Write + Drop>(
             serve_records(&mut wire, &mut watch)?;
         }
         Err(fault) => {
-            line.set_refusal(fault.refusal());
+            line.set_refusal(fault.into());
             line.send(wire.out())?;
         }
     }

@@ -31,13 +31,6 @@ module _ (p : ℕ → Bool) where
         | inr e ↦ e
       ]
 
-  pub all_fails : (n k : ℕ) → k < n → p k ≡ false → all_below p n ≡ false
-  all_fails n k h e =
-      elim (cases_Bool (all_below p n)) [
-        | inl all ↦ absurd (both_ways (p k) e (all_at n all k h))
-        | inr none ↦ none
-      ]
-
 -- tests that agree below n
 pub some_same : (p q : ℕ → Bool) (n : ℕ) → ((k : ℕ) → k < n → p k ≡ q k) → some_below p n ≡ some_below q n
 some_same p q zero same = refl

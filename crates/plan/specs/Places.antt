@@ -1,10 +1,10 @@
 -- Where a row stands on a chain. Assumes nothing.
-use Rattle.std.specs.Prelude.{◌≡◌, ℕ, ◌+◌, ◌<◌, cond, List, [], ◌∷◌, length, Some, None, Option, ◌==◌, ◌≢◌, slice_index}
+use Rattle.std.specs.Prelude.{◌≡◌, ℕ, ◌<◌, List, length, Some, None, Option, ◌==◌, ◌≢◌, slice_index}
+use Rattle.std.specs.List.{position_from}
 
 -- the first place of n among the numbers, counted from i
 abbrev pub place_from : ℕ → List ℕ → ℕ → Option ℕ
-place_from i [] n = None
-place_from i (m ∷ ms) n = cond (m == n) (Some i) (place_from (i + 1) ms n)
+place_from i ms n = position_from (λ m. m == n) i ms
 
 -- the place on the chain of the row with number n, by the numbers along the chain
 abbrev pub place_among_lem : List ℕ → ℕ → Option ℕ

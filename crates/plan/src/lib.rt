@@ -2,16 +2,16 @@
 
 #![tactic(auto)]
 
-ghost use Rattle.std.specs.Prelude.{◌≡◌, ℕ, ◌<◌, ◌≤◌, min, true, ◌&&◌, List, [], ◌∷◌, length, drop, replicate, IfSome};
-ghost use Rattle.mitl.specs.Rows.{row_at, timed_before, timed_rows};
-ghost use Rattle.mitl.specs.Windows.{sound_window, some_below, all_below};
-ghost use Rattle.mitl.specs.Rows.{is_timed};
+ghost use Rattle.std.specs.Prelude.{◌≡◌, ◌<◌, min, [], ◌∷◌, length, take, drop, replicate, count_by, IfSome};
+ghost use Rattle.std.specs.List.{list_any, list_all, enumerate_from};
+ghost use Rattle.mitl.specs.Rows.{is_timed, timed_before, timed_rows};
+ghost use Rattle.mitl.specs.Windows.{sound_window};
 ghost use Rattle.mitl.specs.declared.Row.TheVariants.{Input, Rule};
 ghost use Rattle.plan.specs.Built.{Built};
 ghost use Rattle.plan.specs.Places.{place_among_lem, FirstPlace};
 ghost use Rattle.plan.specs.Rows.{rows_of, numbers_of};
 ghost use Rattle.plan.specs.Sound.{is_a_rule, operand_ok, row_ok, sound_rows};
-ghost use Rattle.plan.specs.Totals.{counts_of, rules_before};
+ghost use Rattle.plan.specs.Totals.{counts_of};
 
 pub mod plan;
 
@@ -60,32 +60,30 @@ pub fn is_sound_window(a: u32, b: u32) -> bool
     a < b && b <= 864_000
 }
 
-// Whether row k may have the operand l.
-fn operand_fits(rows: &[Row; 64], k: usize, l: u8) -> bool
-    requires { k ≤ 64 }
-    ensures { result ≡ operand_ok rows.now k l }
+// Whether a row after these may have the operand l: one of them that is no rule.
+fn operand_fits(before: &[Row], l: u8) -> bool
+    ensures { result ≡ operand_ok before.now (length before.now) l }
 {
-    (l as usize) < k && !is_rule(rows[l as usize])
+    before.get(l as usize).is_some_and(|row| !is_rule(*row))
 }
 
-// Whether a row may stand at place k.
-fn row_fits(rows: &[Row; 64], k: usize, row: Row) -> bool
-    requires { k ≤ 64 }
-    ensures { result ≡ row_ok rows.now k row }
+// Whether a row may stand right after these.
+fn row_fits(before: &[Row], row: Row) -> bool
+    ensures { result ≡ row_ok before.now (length before.now) row }
 {
     match row {
         Row::Input { bit } => bit < 32,
-        Row::Not { left } => operand_fits(rows, k, left),
+        Row::Not { left } => operand_fits(before, left),
         Row::And { left, right } | Row::Or { left, right } => {
-            operand_fits(rows, k, left) && operand_fits(rows, k, right)
+            operand_fits(before, left) && operand_fits(before, right)
         }
         Row::Once { left, a, b } | Row::Always { left, a, b } => {
-            operand_fits(rows, k, left) && is_sound_window(a, b)
+            operand_fits(before, left) && is_sound_window(a, b)
         }
         Row::Since { left, right, a, b } => {
-            operand_fits(rows, k, left) && operand_fits(rows, k, right) && is_sound_window(a, b)
+            operand_fits(before, left) && operand_fits(before, right) && is_sound_window(a, b)
         }
-        Row::Rule { number, left } => number < 16 && operand_fits(rows, k, left),
+        Row::Rule { number, left } => number < 16 && operand_fits(before, left),
     }
 }
 
@@ -97,37 +95,29 @@ pub struct Counts {
     pub timed: usize,
 }
 
-// Whether each of the first rows may stand where it stands.
-fn each_fits(rows: &[Row; 64], count: usize) -> bool
-    requires { count ≤ 64 }
-    ensures { result ≡ all_below (λ k. row_ok rows.now k (row_at rows.now k)) count }
+// Whether each row may stand where it stands.
+fn each_fits(chain: &[Row]) -> bool
+    ensures { result ≡ list_all (λ (k, row). row_ok (take k chain.now) (length (take k chain.now)) row) (enumerate_from 0 chain.now) }
 {
-    for k in 0..count {
-        if !row_fits(rows, k, rows[k]) {
-            return false;
-        }
-    }
-    true
+    chain
+        .iter()
+        .enumerate()
+        .all(|(k, row)| row_fits(&chain[..k], *row))
 }
 
-// Whether one of the first rows is a rule.
-fn has_rule(rows: &[Row; 64], count: usize) -> bool
-    requires { count ≤ 64 }
-    ensures { result ≡ some_below (λ k. is_a_rule (row_at rows.now k)) count }
+// Whether one of the rows is a rule.
+fn has_rule(chain: &[Row]) -> bool
+    ensures { result ≡ list_any is_a_rule chain.now }
 {
-    for k in 0..count {
-        if is_rule(rows[k]) {
-            return true;
-        }
-    }
-    false
+    chain.iter().any(|row| is_rule(*row))
 }
 
 // Whether the first `count` rows may be a plan.
 fn is_sound(rows: &[Row; 64], count: usize) -> bool
     ensures { result ≡ sound_rows rows.now count }
 {
-    count <= 64 && each_fits(rows, count) && has_rule(rows, count)
+    rows.get(..count)
+        .is_some_and(|chain| each_fits(chain) && has_rule(chain))
 }
 
 // The plan of the first `count` rows and their numbers, unless they are no plan.
@@ -145,50 +135,20 @@ pub fn build(rows: [Row; 64], numbers: [u8; 64], count: usize) -> Option<Plan>
     }
 }
 
-fn first_place(numbers: &[u8], number: u8) -> Option<usize>
-    ensures value { result ≡ place_among_lem numbers.now number }
-    ensures within { IfSome result (λ k. k < length numbers.now) }
-    ensures first { FirstPlace numbers.now number result }
-{
-    for (i, n) in numbers.iter().enumerate() {
-        if *n == number {
-            return Some(i);
-        }
-    }
-    None
-}
-
 // The place of the row with this number, by the numbers along the chain.
 pub fn place_among(numbers: &[u8], number: u8) -> Option<usize>
     ensures value { result ≡ place_among_lem numbers.now number }
     ensures within { IfSome result (λ k. k < length numbers.now) }
     ensures first { FirstPlace numbers.now number result }
 {
-    first_place(numbers, number)
+    numbers.iter().position(|n| *n == number)
 }
 
-fn rules_among(rows: &[Row]) -> usize
-    ensures { result ≡ rules_before rows.now (length rows.now) }
-{
-    let mut rules = 0;
-    for k in 0..rows.len() {
-        if is_rule(rows[k]) {
-            rules += 1;
-        }
-    }
-    rules
-}
-
+// How many of these rows are timed.
 fn timed_among(rows: &[Row]) -> usize
-    ensures { result ≡ timed_before rows.now (length rows.now) }
+    ensures { result ≡ count_by is_timed rows.now }
 {
-    let mut timed = 0;
-    for k in 0..rows.len() {
-        if is_timed(rows[k]) {
-            timed += 1;
-        }
-    }
-    timed
+    rows.iter().filter(|row| is_timed(**row)).count()
 }
 
 impl Plan {
@@ -200,29 +160,31 @@ impl Plan {
     }
 
     // How many rows it has, of each sort.
+    #[tactic(auto, using(crate::proofs::Timed::timed_all))]
     pub fn counts(&self) -> Counts
         ensures { result ≡ counts_of (rows_of self.now) }
     {
-        let rows = &self.rows[..self.count];
+        let chain = self.chain();
         Counts {
-            rows: self.count,
-            rules: rules_among(rows),
-            timed: timed_among(rows),
+            rows: chain.len(),
+            rules: chain.iter().filter(|row| is_rule(**row)).count(),
+            timed: timed_among(chain),
         }
     }
 
     // How many timed rows it has.
+    #[tactic(auto, using(crate::proofs::Timed::timed_all))]
     pub fn timed(&self) -> usize
         ensures { result ≡ timed_rows (rows_of self.now) }
     {
-        timed_among(&self.rows[..self.count])
+        timed_among(self.chain())
     }
 
     // How many of them stand before this place.
     pub fn timed_before(&self, place: usize) -> usize
         ensures { result ≡ timed_before (rows_of self.now) (min place self.now.count) }
     {
-        timed_among(&self.rows[..place.min(self.count)])
+        timed_among(&self.chain()[..place.min(self.count)])
     }
 
     // The place on the chain of the row with this number in its table.

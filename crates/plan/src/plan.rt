@@ -8,6 +8,7 @@ use mitl::Row;
 #[derive(Clone, Copy)]
 pub struct Plan {
     // the rows along the chain, and rows that mean nothing from `count` on
+    // (beside their numbers, not paired with them, since the engine and the laws go over rows alone)
     pub rows: [Row; 64],
     // the number of each row in its table
     pub numbers: [u8; 64],

@@ -19,7 +19,7 @@ use std::fmt;
 const DAY: u32 = 864_000;
 
 // A car's identity.
-#[derive(Clone, Copy, PartialEq, Eq, Debug)]
+#[derive(Clone, Copy, PartialEq, Eq, PartialOrd, Ord, Debug)]
 pub struct Car {
     pub number: u16,
 }
@@ -28,7 +28,7 @@ impl Car {
     // The identity that no car has.
     pub const NONE: Car = Car { number: 0 };
 
-    // A car from its two bytes.
+    // A car from its two bytes. Named like the numbers' own from_be_bytes: From would not say which byte is first.
     pub fn from_bytes(bytes: [u8; 2]) -> Car
         ensures { result.number ≡ two_at bytes 0 }
     {
@@ -45,11 +45,11 @@ impl Car {
         self.number.to_be_bytes()
     }
 
-    // Whether two cars are one.
+    // Whether two cars are one, in the words of the contracts; in code == says it.
     pub fn is(self, other: Car) -> bool
         ensures { result ≡ same_car self other }
     {
-        self.number == other.number
+        self == other
     }
 
     // The car as the place of a refusal.
@@ -71,6 +71,7 @@ pub struct Note {
 // What came down the line: R restart, I inputs, E end or V verdict.
 #[derive(Clone, Copy, PartialEq, Eq, Debug)]
 pub struct Record {
+    // as it comes down the line: a char, which each layer matches against literals
     pub letter: char,
     pub car: Car,
     // the record's length
@@ -106,12 +107,12 @@ pub enum RecordFault {
     NoRoom,
 }
 
-impl RecordFault {
-    // The number and place of this fault.
-    pub fn refusal(self) -> Refusal
-        ensures { result ≡ refusal_of self }
-    {
-        match self {
+// The number and place of a fault.
+impl From<RecordFault> for Refusal {
+    ghost from_gives = { λ x r. r ≡ refusal_of x };
+
+    fn from(fault: RecordFault) -> Refusal {
+        match fault {
             RecordFault::NotTwelve => Refusal::new(14, 0),
             RecordFault::UnknownLetter => Refusal::new(15, 0),
             RecordFault::BadZero => Refusal::new(16, 1),
@@ -213,10 +214,10 @@ impl Record {
     pub fn read(bytes: &[u8]) -> Result<Record, RecordFault>
         ensures { Read bytes.now result }
     {
-        match apart(bytes) {
-            Some((zero, record)) => record.checked(zero),
-            None => Err(RecordFault::NotTwelve),
-        }
+        let Some((zero, record)) = apart(bytes) else {
+            return Err(RecordFault::NotTwelve);
+        };
+        record.checked(zero)
     }
 
     // Writes the record into the first twelve bytes of the buffer, and replies 12.
@@ -236,6 +237,7 @@ impl Record {
     }
 }
 
+// Carries the proof of read_back, which is thin over it.
 fn written_and_read(sent: Record) -> Result<Record, RecordFault>
     ensures { Back sent result }
 {
@@ -244,6 +246,7 @@ fn written_and_read(sent: Record) -> Result<Record, RecordFault>
     Record::read(&buffer)
 }
 
+// Carries the proof of pass_on, which is thin over it.
 fn read_and_written(bytes: &[u8], buffer: &mut [u8]) -> Result<usize, RecordFault>
     ensures { Passed bytes.now buffer.old buffer.new result }
 {

@@ -53,11 +53,11 @@ fn refused(rt: &impl Abort, bytes: &[u8], number: u32, place: u32) -> Result<(),
     let expected = Refusal { number, place };
     match Record::read(bytes) {
         Ok(_) => return Err(Fail::new("read")),
-        Err(fault) => assert_eq!(rt; fault.refusal(), expected),
+        Err(fault) => assert_eq!(rt; Refusal::from(fault), expected),
     }
     match pass_on(bytes, &mut buffer) {
         Ok(_) => return Err(Fail::new("passed on")),
-        Err(fault) => assert_eq!(rt; fault.refusal(), expected),
+        Err(fault) => assert_eq!(rt; Refusal::from(fault), expected),
     }
     assert!(rt; buffer == [7; 12]);
     Ok(())
@@ -120,7 +120,7 @@ fn every_refusal_of_writing(rt: HostRuntime) -> Result<(), Fail> {
         unwritten(&rt, sent, room, fault)?;
     }
     assert_eq!(rt;
-        RecordFault::NoRoom.refusal(),
+        Refusal::from(RecordFault::NoRoom),
         Refusal {
             number: 22,
             place: 0,

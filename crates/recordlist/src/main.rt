@@ -7,6 +7,7 @@ ghost use Rattle.std.specs.Prelude.{IfOk};
 ghost use Rattle.recordlist.specs.Counted.{Counted};
 
 use record::Record;
+use refusal::Refusal;
 use std::io::{BufWriter, Read, Write};
 
 // How many pieces were read, and how they were answered.
@@ -29,7 +30,7 @@ fn print_piece<W: Write>(out: &mut W, piece: &[u8], tally: Tally) -> anyhow::Res
             })
         }
         Err(fault) => {
-            let refusal = fault.refusal();
+            let refusal = Refusal::from(fault);
             writeln!(out, "X {refusal}")?;
             Ok(Tally {
                 refused: tally.refused.saturating_add(1),

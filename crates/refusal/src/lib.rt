@@ -8,7 +8,8 @@ ghost use Rattle.refusal.specs.Shown.{refusal_text};
 
 use std::fmt;
 
-// A refusal's number says what was wrong, and its place where.
+// A refusal's number says what was wrong, and its place where. They are numbers since they go down the line; what is
+// refused in code is a fault, an enum of each layer's own.
 #[derive(Clone, Copy, PartialEq, Eq, Debug)]
 pub struct Refusal {
     pub number: u32,

@@ -40,17 +40,17 @@ pub enum ShareFault {
     NoTick,
 }
 
-impl ShareFault {
-    // The number and place of this fault.
-    pub fn refusal(self) -> Refusal
-        ensures { result ≡ refusal_of self }
-    {
-        let place = match self {
+// The number and place of a fault.
+impl From<ShareFault> for Refusal {
+    ghost from_gives = { λ x r. r ≡ refusal_of x };
+
+    fn from(fault: ShareFault) -> Refusal {
+        let place = match fault {
             ShareFault::RuleAbove => 0,
             ShareFault::TooManyNotes => 1,
             ShareFault::NoTick => 2,
         };
-        Refusal { number: 21, place }
+        Refusal::new(21, place)
     }
 }
 
@@ -258,7 +258,7 @@ mod tests {
         assert_eq!(rt; share_of(&over, ONE, 16), Err(ShareFault::RuleAbove));
         assert_eq!(rt; busiest(&[], ONE), Err(ShareFault::NoTick));
         assert_eq!(rt;
-            ShareFault::NoTick.refusal(),
+            Refusal::from(ShareFault::NoTick),
             Refusal {
                 number: 21,
                 place: 2,

@@ -8,6 +8,7 @@
 mod table;
 
 use record::Note;
+use refusal::Refusal;
 use sheet::Piece;
 use std::io;
 use std::io::Read;
@@ -20,7 +21,7 @@ fn print_damage(rt: &HostRuntime, pieces: &[Piece]) -> io::Result<()> {
         match *piece {
             Piece::DamagedLine => println!(rt; "damaged line {number}")?,
             Piece::DamagedRecord(fault) => {
-                let refusal = fault.refusal();
+                let refusal = Refusal::from(fault);
                 println!(rt; "damaged record {number} X {refusal}")?;
             }
             _ => {}

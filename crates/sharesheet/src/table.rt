@@ -34,7 +34,7 @@ impl Line {
     {
         match sheet::row_of(notes, car) {
             Ok(row) => Line::Shares(row),
-            Err(fault) => Line::Refused(car, fault.refusal()),
+            Err(fault) => Line::Refused(car, fault.into()),
         }
     }
 }

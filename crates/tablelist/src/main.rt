@@ -2,32 +2,29 @@
 
 #![tactic(auto)]
 
-ghost use Rattle.std.specs.Prelude.{◌≡◌, ◌<◌, Some};
+ghost use Rattle.std.specs.Prelude.{◌≡◌, ℕ, Some};
 ghost use Rattle.mitl.specs.Rows.{Earlier};
-ghost use Rattle.tablelist.specs.Numbered.{numbered, line_of};
+ghost use Rattle.tablelist.specs.Numbered.{Stands, numbered, line_of};
 ghost use Rattle.tablelist.specs.Texts.{heading_text, line_text};
 
 use mitl::Row;
 use plan::Counts;
 use plan::plan::Plan;
+use refusal::Refusal;
 use std::io::Read;
 use std::{fmt, io};
 use table::decode_any;
 use table::fault::{RowFault, TableFault};
 
-// The line above the rows.
+// The line above the rows: a type of its own, since another crate's type gets no text here.
 #[derive(Clone, Copy)]
-struct Heading {
-    counts: Counts,
-}
+struct Heading(Counts);
 
 impl fmt::Display for Heading {
-    ghost output = { λ h. Some (heading_text h.counts) };
+    ghost output = { λ h. Some (heading_text h.0) };
 
     fn fmt<W: fmt::Write>(&self, f: &mut fmt::Formatter<W>) -> fmt::Result {
-        let rows = self.counts.rows;
-        let rules = self.counts.rules;
-        let timed = self.counts.timed;
+        let Counts { rows, rules, timed } = self.0;
         write!(
             f,
             "rows on the chain: {rows}, rules: {rules}, timed rows: {timed}"
@@ -75,12 +72,6 @@ impl fmt::Display for Line {
     }
 }
 
-// A refusal in words.
-#[derive(Clone, Copy)]
-struct Refused {
-    fault: TableFault,
-}
-
 fn row_reason(fault: RowFault) -> &'static str {
     match fault {
         RowFault::Letter(_) => "unknown letter",
@@ -104,75 +95,65 @@ fn reason(fault: TableFault) -> &'static str {
     }
 }
 
-impl fmt::Display for Refused {
-    fn fmt<W: fmt::Write>(&self, f: &mut fmt::Formatter<W>) -> fmt::Result {
-        let refusal = self.fault.refusal();
-        let number = refusal.number;
-        let place = refusal.place;
-        let words = reason(self.fault);
-        write!(f, "refusal {number} at {place}: {words}")
-    }
-}
-
 // A row with the numbers of its operands in place of their places.
+// (A match of its own: a walk over any row's operands would be the same match around a closure, with one use.)
 fn with_numbers(numbers: &[u8; 64], row: Row) -> Row
     requires { Earlier 64 row }
     ensures { result ≡ numbered numbers.now row }
 {
+    let numbered = |place: u8| numbers[place as usize];
     match row {
         Row::Input { bit } => Row::Input { bit },
         Row::Not { left } => Row::Not {
-            left: numbers[left as usize],
+            left: numbered(left),
         },
         Row::And { left, right } => Row::And {
-            left: numbers[left as usize],
-            right: numbers[right as usize],
+            left: numbered(left),
+            right: numbered(right),
         },
         Row::Or { left, right } => Row::Or {
-            left: numbers[left as usize],
-            right: numbers[right as usize],
+            left: numbered(left),
+            right: numbered(right),
         },
         Row::Once { left, a, b } => Row::Once {
-            left: numbers[left as usize],
+            left: numbered(left),
             a,
             b,
         },
         Row::Always { left, a, b } => Row::Always {
-            left: numbers[left as usize],
+            left: numbered(left),
             a,
             b,
         },
         Row::Since { left, right, a, b } => Row::Since {
-            left: numbers[left as usize],
-            right: numbers[right as usize],
+            left: numbered(left),
+            right: numbered(right),
             a,
             b,
         },
         Row::Rule { number, left } => Row::Rule {
             number,
-            left: numbers[left as usize],
+            left: numbered(left),
         },
     }
 }
 
-// The line of the row at a place of the chain.
-fn line_at(plan: &Plan, place: usize) -> Line
-    requires { place < plan.now.count }
-    ensures { result ≡ line_of plan.now place }
+// The line of a row that stands on the chain with this number.
+fn line_of_row(plan: &Plan, number: u8, row: Row) -> Line
+    requires { (k : ℕ) × Stands plan.now k number row }
+    ensures { (k : ℕ) → Stands plan.now k number row → result ≡ line_of plan.now k }
 {
     Line {
-        number: plan.numbers[place],
-        row: with_numbers(&plan.numbers, plan.rows[place]),
+        number,
+        row: with_numbers(&plan.numbers, row),
     }
 }
 
 fn print_plan(rt: &HostRuntime, plan: &Plan) -> io::Result<()> {
-    let heading = Heading {
-        counts: plan.counts(),
-    };
+    let heading = Heading(plan.counts());
     println!(rt; "{heading}")?;
-    for place in 0..plan.count {
-        let words = line_at(plan, place);
+    for (number, row) in plan.numbers.iter().zip(plan.chain()) {
+        let words = line_of_row(plan, *number, *row);
         println!(rt; "{words}")?;
     }
     Ok(())
@@ -182,8 +163,9 @@ fn print_table(rt: &HostRuntime, bytes: &[u8]) -> io::Result<()> {
     match decode_any(bytes) {
         Ok(plan) => print_plan(rt, &plan),
         Err(fault) => {
-            let words = Refused { fault };
-            println!(rt; "{words}")
+            let Refusal { number, place } = fault.refusal();
+            let words = reason(fault);
+            println!(rt; "refusal {number} at {place}: {words}")
         }
     }
 }

@@ -32,14 +32,14 @@ impl From<ListFault> for SetFault {
     }
 }
 
-impl SetFault {
-    // The number and place of a fault of Set.
-    pub fn refusal(self) -> Refusal
-        ensures { result ≡ of_set self }
-    {
-        match self {
+// The number and place of a fault of Set.
+impl From<SetFault> for Refusal {
+    ghost from_gives = { λ x r. r ≡ of_set x };
+
+    fn from(fault: SetFault) -> Refusal {
+        match fault {
             SetFault::Table(fault) => fault.refusal(),
-            SetFault::List(fault) => fault.refusal(),
+            SetFault::List(fault) => fault.into(),
             SetFault::Memories => Refusal::new(13, 0),
         }
     }

@@ -1,13 +1,11 @@
-use Rattle.std.proofs.Common.{◌≡◌, ◌≤◌, length, take, ap, ◌∙◌, arith, rules}
+-- What is left to show for the timed rows before a place. Assumes nothing.
+use Rattle.std.proofs.Common.{◌≤◌, length, ap₂, ◌∙◌, rules}
 use Rattle.mitl.specs.Rows.{timed_before}
-use Rattle.plan.specs.Rows.{rows_of}
 use Rattle.plan.proofs.Timed.{timed_first}
 use Rattle.plan.proofs.plan.Plan.timed_before.Goals as goal
 
 pub returns : goal.returns
 returns c =
-    let p = c.args.self.now in
-    let m = c.min.result in
-    let low : m ≤ p.count = omega arith in
-    let size : length (take m p.rows) ≡ m = search rules in
-    c.timed_among.ensures ∙ ap (timed_before (take m p.rows)) size ∙ timed_first p.rows m p.count m (omega arith) low ∙ ap (timed_before (rows_of p)) c.min.ensures
+    let chain = c.chain.result.now in
+    let within : c.min.result ≤ length chain = search rules in
+    c.timed_among.ensures ∙ timed_first chain c.min.result within ∙ ap₂ timed_before c.chain.ensures c.min.ensures
