@@ -8,6 +8,7 @@ use window::WindowMemory;
 
 // The verdict of the memory at this place, and for how long it lasts, while its operand keeps this value: the pair that
 // a memory's `run` answers.
+#[tactic(auto, using(crate::proofs::Meant::meant_is))]
 pub(crate) fn run_at<M: WindowMemory>(part: &[M], at: usize, operand: bool) -> (bool, Option<u32>)
     requires { at < length part.now }
     ensures { Lasts (ahead (meant M.meaning part.now at).a operand (meant M.meaning part.now at).mark) result.0 result.1 }
@@ -16,6 +17,7 @@ pub(crate) fn run_at<M: WindowMemory>(part: &[M], at: usize, operand: bool) -> (
 }
 
 // B runs on by the opposite of the left reading, turned round.
+#[tactic(auto, using(crate::proofs::Lengths::lasts_turned))]
 pub(crate) fn run_always<M: WindowMemory>(part: &[M], at: usize, left: bool) -> (bool, Option<u32>)
     requires { at < length part.now }
     ensures { Lasts (λ d. not (ahead (meant M.meaning part.now at).a (not left) (meant M.meaning part.now at).mark d)) result.0 result.1 }

@@ -78,8 +78,8 @@ pub on_part : {X : Type 0} (n i from to : ℕ) (ms ys : List X) → Back n i fro
     → P (part_at n i ms) (part_at n i (put_mid from (to - from) ms ys))
 on_part n i from to ms ys back P holds = subst (λ zs. P (part_at n i ms) zs) (sym back.now_is) (subst (λ zs. P zs ys) (sym back.was) holds)
 
-pub lent_back : {X : Type 0} (n i from to : ℕ) (ms ys : List X) (timed : ℕ) → timed ≡ n → Spanned i timed (length ms) (Some (from, to)) → length ys ≡ length (between from to ms) → Back n i from to ms ys
-lent_back {X} n i from to ms ys timed same span size = record {
+pub lent_back : {X : Type 0} (n i from to : ℕ) (ms ys : List X) → Spanned i n (length ms) (Some (from, to)) → length ys ≡ length (between from to ms) → Back n i from to ms ys
+lent_back n i from to ms ys (starts, ends, within) size = record {
   inside = le-leb (i * n + n) (length ms) (omega (arith, ends, within));
   many = omega (arith, mid_len from to ms within, starts, ends);
   only = record {
@@ -93,17 +93,8 @@ lent_back {X} n i from to ms ys timed same span size = record {
   was = ap₂ (λ a e. between a e ms) (sym starts) (sym ends);
 }
   where
-    starts : from ≡ i * n
-    starts = span.0 ∙ ap (λ k. i * k) same
-
-    ends : to ≡ i * n + n
-    ends = span.1 ∙ ap (λ k. i * k + k) same
-
-    within : to ≤ length ms
-    within = span.2
-
     order : from ≤ to
-    order = omega (arith, starts, ends)
+    order = omega arith
 
 pub same_only : {X : Type 0} (n i : ℕ) (ms : List X) → OnlyPart n i ms ms
 same_only n i ms = record { long = refl; elsewhere = λ k m away. refl }

@@ -37,9 +37,10 @@ fn window_of(row: Row) -> Option<(u32, u32)>
 
 // Where the part of the car at this place begins and ends, if the list is that long. The callers lend the part
 // themselves: of notes that a closure holds nothing would be known where it is not called.
-fn span(at: usize, timed: usize, len: usize) -> Option<(usize, usize)>
-    ensures { Spanned at timed len result }
+fn span(plan: &Plan, at: usize, len: usize) -> Option<(usize, usize)>
+    ensures { Spanned at (timed_rows (rows_of plan.now)) len result }
 {
+    let timed = plan.timed();
     let from = at.checked_mul(timed)?;
     let to = from.checked_add(timed)?;
     (to <= len).then_some((from, to))
@@ -85,7 +86,7 @@ fn prepare_part<M: WindowMemory>(plan: &Plan, part: &mut [M])
 fn prepare_car<M: WindowMemory>(plan: &Plan, at: usize, memories: &mut [M])
     ensures { CarPrepared M.meaning M.admitted (rows_of plan.now) at memories.old memories.new }
 {
-    if let Some((from, to)) = span(at, plan.timed(), memories.len()) {
+    if let Some((from, to)) = span(plan, at, memories.len()) {
         prepare_part(plan, &mut memories[from..to]);
     }
 }
@@ -95,7 +96,7 @@ pub fn clear_car<M: WindowMemory>(plan: &Plan, at: usize, memories: &mut [M])
     ensures cleared { CarCleared M.meaning (rows_of plan.now) at memories.old memories.new }
     ensures exactly { CarEmptied M.meaning (rows_of plan.now) at memories.old memories.new }
 {
-    if let Some((from, to)) = span(at, plan.timed(), memories.len()) {
+    if let Some((from, to)) = span(plan, at, memories.len()) {
         clear(plan, &mut memories[from..to]);
     }
 }
@@ -111,7 +112,7 @@ pub fn feed_car<M: WindowMemory>(
     ensures fed { CarFed M.meaning (rows_of plan.now) at inputs.car inputs.word inputs.ticks memories.old notes.old memories.new notes.new result }
     ensures exactly { CarTold M.meaning (rows_of plan.now) at inputs.car inputs.word inputs.ticks memories.old notes.old memories.new notes.new result }
 {
-    match span(at, plan.timed(), memories.len()) {
+    match span(plan, at, memories.len()) {
         Some((from, to)) => feed(plan, inputs, &mut memories[from..to], notes),
         None => Fed { notes: 0, ticks: 0 },
     }
@@ -151,7 +152,7 @@ pub fn show<M: WindowMemory>(memory: M, d: u32) -> Shown
 pub fn index_of(plan: &Plan, at: usize, place: usize, len: usize) -> Option<usize>
     ensures { Indexed (rows_of plan.now) at (min place plan.now.count) len result }
 {
-    let (from, _) = span(at, plan.timed(), len)?;
+    let (from, _) = span(plan, at, len)?;
     from.checked_add(plan.timed_before(place))
         .filter(|index| *index < len)
 }
