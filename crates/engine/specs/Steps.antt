@@ -78,7 +78,7 @@ pub record Foreseen {X : Type 0} (meaning : X → Meaning) (rows : List Row) (w 
   pub small : z < 65536
   pub bits : (i : ℕ) → bit i z ≡ some_below (λ k. is_rule i (row_at rows k) && reading vs k) n
 
--- the step is that of all rows
+-- the step has the readings of all rows, their verdict word, and for how long they stay
 abbrev pub Foresees : {X : Type 0} → (X → Meaning) → List Row → ℕ → List X → Step → Type 0
 Foresees meaning rows w ms s = Foreseen meaning rows w ms (length rows) s.readings s.word s.lasts
 
