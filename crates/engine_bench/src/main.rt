@@ -4,7 +4,7 @@
 
 use bit_marks::BitMarks;
 use clock_pairs::ClockPairs;
-use engine::feed;
+use engine::{Inputs, feed};
 use mitl::Row;
 use plan::build;
 use plan::plan::Plan;
@@ -170,7 +170,12 @@ fn feeds<M: WindowMemory>(
     let mut notes = 0usize;
     let mut sum = 0u32;
     for i in 0..RECORDS {
-        let fed = feed(plan, CAR, i % 8, ticks, part, places);
+        let inputs = Inputs {
+            car: CAR,
+            word: i % 8,
+            ticks,
+        };
+        let fed = feed(plan, inputs, part, places);
         notes = notes.wrapping_add(fed.notes);
         for note in places.iter().take(fed.notes) {
             sum = sum.wrapping_mul(31).wrapping_add(u32::from(note.word));

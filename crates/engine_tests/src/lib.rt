@@ -6,7 +6,7 @@
 mod tests {
     use bit_marks::BitMarks;
     use clock_pairs::ClockPairs;
-    use engine::feed;
+    use engine::{Inputs, feed};
     use mitl::Row;
     use plan::build;
     use plan::plan::Plan;
@@ -207,7 +207,12 @@ mod tests {
         for (word, ticks) in [(1, 1), (0, 4), (1, 2), (0, 5)] {
             let mut left = ticks;
             for _ in 0..ticks {
-                let fed = feed(plan, CAR, word, most.min(left), part, places);
+                let inputs = Inputs {
+                    car: CAR,
+                    word,
+                    ticks: most.min(left),
+                };
+                let fed = feed(plan, inputs, part, places);
                 spelling.add(places, fed.notes);
                 left = left.saturating_sub(fed.ticks);
             }
@@ -293,7 +298,12 @@ mod tests {
         places: &mut [Note],
         notes: &[(u16, u32)],
     ) {
-        let fed = feed(plan, CAR, word, ticks, part, places);
+        let inputs = Inputs {
+            car: CAR,
+            word,
+            ticks,
+        };
+        let fed = feed(plan, inputs, part, places);
         assert_eq!(rt; fed.notes, notes.len());
         let mut taken = 0u32;
         for (place, (word, ticks)) in places.iter().zip(notes) {

@@ -16,7 +16,7 @@ pub mod fault;
 mod inner;
 
 use cars::{CarFault, CarTable, FeedFault};
-use engine::Fed;
+use engine::{Fed, Inputs};
 use fault::SetFault;
 use inner::Inner;
 use memories::{Shown, clear_car, feed_car, index_of, prepare_cars, show};
@@ -205,8 +205,12 @@ impl<'a, M: WindowMemory> Watch<'a, M> {
         if notes.len() == 0 {
             return Err(FeedFault::Car(CarFault::NoPlace));
         }
-        let (car, word, ticks) = (record.car, record.word, record.ticks);
-        Ok(feed_car(&plan, at, car, word, ticks, self.memories, notes))
+        let inputs = Inputs {
+            car: record.car,
+            word: record.word,
+            ticks: record.ticks,
+        };
+        Ok(feed_car(&plan, at, inputs, self.memories, notes))
     }
 }
 
