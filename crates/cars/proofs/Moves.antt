@@ -7,12 +7,12 @@ use Rattle.refusal.specs.Faults.{refusal}
 use Rattle.record.specs.Layout.{is_I}
 use Rattle.cars.specs.declared.CarState.{CarState}
 use Rattle.record.specs.declared.Car.{Car}
+use Rattle.record.specs.Cars.{car_place}
 use Rattle.cars.specs.declared.CarTable.{CarTable}
 use Rattle.cars.specs.declared.FeedFault.{FeedFault}
 use Rattle.cars.specs.declared.Slot.{Slot}
 use Rattle.cars.specs.Cars.{no_slot, cars_of, place_of}
 use Rattle.cars.specs.Moves.{Moved, MovedAt, Recorded, record_refusal, moved, is_running}
-use Rattle.cars.specs.Refusals.{car_place}
 use Rattle.cars.proofs.Places.{place_in, car_at, length_cars}
 
 abbrev table : List Slot → ℕ → CarTable

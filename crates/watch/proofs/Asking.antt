@@ -8,13 +8,13 @@ use Rattle.mitl.specs.Memory.{Meaning, counted}
 use Rattle.mitl.specs.Rows.{row_at, is_timed, timed_before, timed_rows}
 use Rattle.refusal.specs.Faults.{refusal, first_fault}
 use Rattle.record.specs.declared.Car.{Car}
+use Rattle.record.specs.Cars.{no_car, car_place}
 use Rattle.plan.specs.Rows.{rows_of, numbers_of}
 use Rattle.plan.specs.Places.{place_among_lem}
 use Rattle.table.specs.Chain.{rows_in, numbers_in}
 use Rattle.engine.specs.Means.{Means}
 use Rattle.engine.proofs.Plans.{used_most, timed_past}
-use Rattle.cars.specs.Cars.{no_car, listed, place_of, cars_of}
-use Rattle.cars.specs.Refusals.{car_place}
+use Rattle.cars.specs.Cars.{listed, place_of, cars_of}
 use Rattle.cars.proofs.Places.{place_listed, place_in}
 use Rattle.memories.specs.declared.Shown.{Shown}
 use Rattle.memories.specs.Parts.{part_at, Indexed}
@@ -29,7 +29,7 @@ module _ {M : Type 0} (meaning : M → Meaning) (room : ℕ) (w : Held M) (k : B
   found = place_of (cars_of w.inner.cars) c
 
   pub listed_is : is_some found ≡ listed k.cars c
-  listed_is = place_listed 0 (cars_of w.inner.cars) c ∙ ap (λ cs. listed cs c) keeps.cars
+  listed_is = place_listed (cars_of w.inner.cars) c ∙ ap (λ cs. listed cs c) keeps.cars
 
   module _ (at : ℕ) (is : found ≡ Some at) where
     pub in_list : listed k.cars c ≡ true

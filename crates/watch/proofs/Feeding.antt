@@ -18,6 +18,8 @@ use Rattle.record.specs.declared.Car.{Car}
 use Rattle.record.specs.declared.Note.{Note}
 use Rattle.record.specs.declared.Record.{Record}
 use Rattle.record.specs.Layout.{is_R, is_I, is_E, is_V, known, fields_at, field_faults, zero_fault}
+use Rattle.record.specs.Cars.{same_car, no_car, car_place}
+use Rattle.record.proofs.Cars.{same_self, same_is}
 use Rattle.plan.specs.Rows.{rows_of}
 use Rattle.engine.specs.declared.Fed.{Fed}
 use Rattle.engine.specs.Means.{Means}
@@ -27,15 +29,14 @@ use Rattle.cars.specs.declared.CarState.{CarState}
 use Rattle.cars.specs.declared.CarState.TheVariants.{Running, Ended}
 use Rattle.cars.specs.declared.CarTable.{CarTable}
 use Rattle.cars.specs.declared.FeedFault.{FeedFault}
-use Rattle.cars.specs.Cars.{same_car, no_car, no_slot, listed, place_of, cars_of, state_at}
+use Rattle.cars.specs.Cars.{no_slot, listed, place_of, cars_of, state_at}
 use Rattle.cars.specs.Moves.{is_running, moved, record_refusal, Recorded}
-use Rattle.cars.specs.Refusals.{car_place, of_feed}
+use Rattle.cars.specs.Refusals.{of_feed}
 use Rattle.cars.proofs.Places.{place_in, car_at, length_cars}
 use Rattle.memories.specs.Parts.{part_at, OnlyPart, CarCleared, CarFed}
 use Rattle.memories.proofs.Lent.{other_part, same_only}
 use Rattle.book.specs.Book.{Book, with_car, noted, rows_of_book, due_runs, due_notes, restarted, finished, judged}
 use Rattle.book.specs.Calls.{feed_faults, car_faults}
-use Rattle.book.proofs.Spoken.{same_self, same_is}
 use Rattle.watch.specs.Keeping.{Held, held, Keeps}
 use Rattle.watch.specs.Replies.{bytes_faults}
 use Rattle.watch.proofs.Asking.{listed_is, in_list, place_is, some_cars, part_means}

@@ -5,12 +5,13 @@ use Rattle.mitl.specs.Rows.{timed_rows}
 use Rattle.plan.specs.Rows.{rows_of, numbers_of}
 use Rattle.table.specs.Chain.{rows_in, numbers_in}
 use Rattle.engine.specs.Means.{Means}
-use Rattle.cars.specs.Cars.{no_car, cars_of, state_at}
+use Rattle.cars.specs.Cars.{cars_of, state_at}
 use Rattle.memories.specs.Parts.{part_at}
 use Rattle.book.specs.Book.{Book, empty}
 use Rattle.book.specs.Calls.{Event}
 use Rattle.book.specs.Runs.{Step, Trace}
 use Rattle.watch.specs.declared.inner.Inner.{Inner}
+use Rattle.record.specs.Cars.{no_car}
 
 -- what a watch holds: its plan and cars, and its memories
 pub record Held (M : Type 0) : Type 0 where

@@ -1,11 +1,11 @@
 use Rattle.std.proofs.Common.{[], sym, refl, ◌∙◌}
 use Rattle.refusal.specs.Faults.{refusal}
-use Rattle.cars.specs.Refusals.{car_place}
 use Rattle.book.specs.Calls.{query, shown}
 use Rattle.watch.specs.Keeping.{held, Keeps}
 use Rattle.watch.proofs.Asking.{not_listed, not_timed, timed_is, no_fault, not_missing, shown_right}
 use Rattle.watch.proofs.Steps.{refused_step, accepted_step}
 use Rattle.watch.proofs.Watch.ask.Goals as goal
+use Rattle.record.specs.Cars.{car_place}
 
 pub returns-in_default : goal.returns-in_default
 returns-in_default g c =
