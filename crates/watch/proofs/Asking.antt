@@ -1,7 +1,8 @@
 -- What a watch that keeps a book shows. Assumes nothing.
-use Rattle.std.proofs.Common.{◌≡◌, ℕ, ◌+◌, ◌-◌, ◌*◌, ◌<◌, ◌≤◌, min, true, cond, not, ◌⊎◌, List, length, get_or, drop, is_some, Some, None, Option, sym, refl, ap, ◌∙◌, subst, ap₂, inl, inr, mul-le-mul_right, arith}
+use Rattle.std.proofs.Common.{◌≡◌, ℕ, ◌+◌, ◌-◌, ◌*◌, ◌<◌, ◌≤◌, min, true, cond, not, ◌⊎◌, List, length, get_or, drop, is_some, Some, None, Ok, Err, Option, sym, refl, ap, ◌∙◌, subst, ap₂, inl, inr, mul-le-mul_right, arith}
 use Rattle.std.proofs.lemmas.List.{get_or-take, get_or-drop}
 use Rattle.std.proofs.lemmas.Bool.{cond-true, cond-false, not_from_true, not_from_false}
+use Rattle.std.specs.Option.{ok_or}
 use Rattle.mitl.specs.declared.Row.{Row}
 use Rattle.mitl.specs.Blocks.{row_looked}
 use Rattle.mitl.specs.Memory.{Meaning, counted}
@@ -23,6 +24,15 @@ use Rattle.book.specs.Calls.{shown, query_faults, timed_place, if_timed, no_plac
 use Rattle.book.proofs.After.{timed_on}
 use Rattle.watch.specs.Keeping.{Held, Keeps}
 use Rattle.watch.specs.Replies.{timed_only}
+
+-- what a search did not find, told by its fault, and what it found
+pub missing : {T E : Type 0} (o p : Option T) (e x : E) → o ≡ p → Err x ≡ ok_or o e → (p ≡ None) × (x ≡ e)
+missing None p e x is told = (sym is, cc)
+missing (Some t) p e x is told = cc
+
+pub there : {T E : Type 0} (o p : Option T) (e : E) (t : T) → o ≡ p → Ok t ≡ ok_or o e → p ≡ Some t
+there None p e t is told = cc
+there (Some s) p e t is told = cc
 
 module _ {M : Type 0} (meaning : M → Meaning) (room : ℕ) (w : Held M) (k : Book) (keeps : Keeps meaning room w k) (c : Car) where
   abbrev found : Option ℕ
