@@ -107,3 +107,9 @@ first_position cs n lt off on = first_counted (λ i. fault (wrong_car cs i) 12 (
 -- the place of a car is a place of the list, and has that car
 pub place_in : (cs : List Car) (c : Car) (i : ℕ) → place_of cs c ≡ Some i → (i < length cs) × (get_or cs i no_car ≡ c)
 place_in cs c i e = let p = position-Some (λ d. same_car d c) cs i no_car e in (p.0, same_is (get_or cs i no_car) c p.1)
+
+-- and so has the slot at that place
+pub car_found : (t : CarTable) (c : Car) (i : ℕ) → place_of (cars_of t) c ≡ Some i → (get_or t.slots i no_slot).car ≡ c
+car_found t c i found =
+    let p = place_in (cars_of t) c i found in
+    sym (car_at t i (omega (arith, p.0, length_cars t)) (omega (arith, p.0, length_cars t))) ∙ p.1
