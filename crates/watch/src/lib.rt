@@ -6,7 +6,7 @@ ghost use Rattle.std.specs.Prelude.{◌≡◌, ℕ, ◌*◌, ◌<◌, ◌≤◌,
 ghost use Rattle.plan.specs.Rows.{rows_of};
 ghost use Rattle.mitl.specs.Rows.{timed_rows};
 ghost use Rattle.record.specs.Layout.{fields_at};
-ghost use Rattle.watch.specs.Replies.{ReadForCar, Loaded, PlacedRow, timed_only};
+ghost use Rattle.watch.specs.Replies.{ReadForCar, Loaded, PlacedRow};
 ghost use Rattle.watch.specs.Keeping.{held_by, SameList, Fresh, Runs, Steps};
 ghost use Rattle.watch.specs.Promised.{BothEnds, Promise};
 ghost use Rattle.watch.specs.Made.{set_made, feed_made, query_made, notes_told};
@@ -56,13 +56,16 @@ fn timed_row(plan: &Plan, row: u8) -> Option<usize>
     is_timed(plan.rows[place]).then_some(place)
 }
 
-// A watch over a lent list of memories.
+// A watch over a lent list of memories. Its fields stand in its contracts, since behind a model a caller would not know
+// what its list holds once the watch is gone.
 #[derive(Drop)]
 pub struct Watch<'a, M: WindowMemory> {
     memories: &'a mut [M],
     inner: Inner,
 }
 
+// The public calls are thin: the private ones under them carry the proofs, so that a wrong public call fails at its own
+// line.
 impl<'a, M: WindowMemory> Watch<'a, M> {
     // A watch over a list of memories, new or used: no table and no cars stand. What is promised after any list of
     // calls on it stands here.
