@@ -145,12 +145,10 @@ impl<'a, M: WindowMemory> Watch<'a, M> {
     {
         let plan = &self.inner.plan;
         let at = self.inner.cars.find(car).ok_or(CarFault::NotListed(car))?;
-        let place = timed_row(plan, row).ok_or(CarFault::NoTimedRow(row))?;
-        let index = index_of(plan, at, place, self.memories.len()).ok_or(CarFault::NoTimedRow(
-            row,
-        ))?;
-        let memory = self.memories[index];
-        Ok(show(memory, d))
+        let untimed = CarFault::NoTimedRow(row);
+        let place = timed_row(plan, row).ok_or(untimed)?;
+        let index = index_of(plan, at, place, self.memories.len()).ok_or(untimed)?;
+        Ok(show(self.memories[index], d))
     }
 
     // One record is taken, or refused and nothing changes.
