@@ -1,8 +1,10 @@
 -- Stretches counted word by word. Assumes nothing.
-use Rattle.std.proofs.Common.{◌≡◌, ℕ, zero, suc, ◌+◌, ◌/◌, ◌%◌, ◌^◌, ◌<◌, ◌≤◌, Bool, false, cond, not, ◌&&◌, eqb, sym, ap, ◌∙◌, ap₂, add-zero, add-suc, pow-suc, arith}
+use Rattle.std.proofs.Common.{◌≡◌, ℕ, zero, suc, ◌+◌, ◌-◌, ◌*◌, sum, map, refl, ◌/◌, ◌%◌, ◌^◌, ◌<◌, ◌≤◌, Bool, false, cond, not, ◌&&◌, eqb, sym, ap, ◌∙◌, ap₂, add-zero, add-suc, pow-suc, arith}
 use lib.Count.{ones, ones_cat, ones-ones}
 use Rattle.std.proofs.lemmas.Nat.{pow_pos, shr_split, mod_below, div_below}
 use Rattle.std.proofs.lemmas.Bool.{and_left}
+use Rattle.std.specs.List.{range_with_len}
+use Rattle.std.proofs.lemmas.List.FromFn.{sum_by-map-range_with_len_more}
 use Rattle.mitl.specs.Formulas.{bit}
 use Rattle.mitl.specs.Memory.{stretches}
 use Rattle.bit_marks.specs.Bits.{mod_bit}
@@ -38,3 +40,18 @@ past_stretches mark b zero none = ap (stretches mark) (add-zero b)
 past_stretches mark b (suc j) none =
     ap (stretches mark) (add-suc b j)
     ∙ ap₂ ◌+◌ (ap (λ t. cond t 1 0) (and_left (mark (b + j)) (not (mark (suc (b + j)))) (none (b + j) (omega arith)))) (past_stretches mark b j none) ∙ omega arith
+
+-- of more marks there are as many stretches or more
+stretches_le : (mark : ℕ → Bool) (i j : ℕ) → stretches mark i ≤ stretches mark (i + j)
+stretches_le mark i zero = omega (arith, ap (stretches mark) (add-zero i))
+stretches_le mark i (suc j) = omega (arith, ap (stretches mark) (add-suc i j), stretches_le mark i j)
+
+-- word by word the stretches that end there are all of them
+pub stretches_by_word : (mark : ℕ → Bool) (n : ℕ) → sum (map (λ at. stretches mark (64 * at + 64) - stretches mark (64 * at)) (range_with_len 0 n)) ≡ stretches mark (64 * n)
+stretches_by_word mark zero = refl
+stretches_by_word mark (suc n) =
+    let h : ℕ → ℕ = λ at. stretches mark (64 * at + 64) - stretches mark (64 * at) in
+    let one : suc n ≡ n + 1 = omega arith in
+    let all : stretches mark (64 * n) + h n ≡ stretches mark (64 * n + 64) = omega (arith, stretches_le mark (64 * n) 64) in
+    ap (λ m. sum (map h (range_with_len 0 m))) one ∙ sum_by-map-range_with_len_more (λ x. x) h 0 n n (omega arith) ∙ ap (λ m. m + h n) (stretches_by_word mark n) ∙ all
+    ∙ ap (stretches mark) (omega arith)

@@ -19,10 +19,10 @@ ends_by b ws = all_below (λ d. not (nat_le b d && marked ws d)) (64 * length ws
 
 -- content that this kind makes
 abbrev pub sound : BitMarks → Bool
-sound m = served m.a m.b && ends_by m.b m.words
+sound m = served m.a m.b && ends_by m.b m.marks.words
 
 abbrev pub told : BitMarks → Meaning
-told m = record { a = m.a; b = m.b; mark = marked m.words }
+told m = record { a = m.a; b = m.b; mark = marked m.marks.words }
 
 -- content that this kind never makes means a new memory
 abbrev pub meaning_of : BitMarks → Meaning

@@ -15,17 +15,18 @@ pub when_sound : (m : BitMarks) → sound m ≡ true → meaning_of m ≡ told m
 when_sound m e = cond-true (sound m) (told m) new_memory e
 
 pub record Parts (m : BitMarks) : Type 0 where
+  pub admitted : served m.a m.b ≡ true
   pub order : m.a < m.b
   pub small : m.b ≤ 1000
-  pub within : ends_by m.b m.words ≡ true
-  pub none : (d : ℕ) → m.b ≤ d → marked m.words d ≡ false
+  pub within : ends_by m.b m.marks.words ≡ true
+  pub none : (d : ℕ) → m.b ≤ d → marked m.marks.words d ≡ false
 
 pub parts : (m : BitMarks) → sound m ≡ true → Parts m
 parts m e =
-    let p = and_parts (served m.a m.b) (ends_by m.b m.words) e in
+    let p = and_parts (served m.a m.b) (ends_by m.b m.marks.words) e in
     let q = and_parts (sound_window m.a m.b) (nat_le m.b 1000) p.0 in
     let s = and_parts (nat_lt m.a m.b) (nat_le m.b 864000) q.0 in
-    record { order = ltb-true _ _ s.0; small = leb-true _ _ q.1; within = p.1; none = (ends_decided m.b m.words).0 p.1 }
+    record { admitted = p.0; order = ltb-true _ _ s.0; small = leb-true _ _ q.1; within = p.1; none = (ends_decided m.b m.marks.words).0 p.1 }
 
 -- past the marks there is no yes
 pub marks_within : (m : BitMarks) (d : ℕ) → (meaning_of m).b ≤ d → (meaning_of m).mark d ≡ false
@@ -40,7 +41,7 @@ marks_within m d h = ⊎_elim kept new (cases_Bool (sound m))
     new e = ap (λ (t : Meaning). t.mark d) (cond-false (sound m) (told m) new_memory e)
 
 -- from b on the verdict is the operand
-pub past_ahead : (m : BitMarks) → sound m ≡ true → (v : Bool) (d : ℕ) → m.b ≤ d → ahead m.a v (marked m.words) d ≡ v
+pub past_ahead : (m : BitMarks) → sound m ≡ true → (v : Bool) (d : ℕ) → m.b ≤ d → ahead m.a v (marked m.marks.words) d ≡ v
 past_ahead m e v d h =
     let p = parts m e in
     ap₂ (λ x y. x || (v && y)) (p.none d h) (le-leb m.a d (omega arith)) ∙ kept v
@@ -50,7 +51,7 @@ past_ahead m e v d h =
     kept false = refl
 
 abbrev pub the_marks : ℕ → ℕ → List ℕ → BitMarks
-the_marks a b ws = record { a = a; b = b; words = ws }
+the_marks a b ws = record { a = a; b = b; marks = record { words = ws } }
 
 abbrev meant : ℕ → ℕ → (ℕ → Bool) → Meaning
 meant a b f = record { a = a; b = b; mark = f }

@@ -77,9 +77,9 @@ module _ (ws : List ℕ) (b i w m : ℕ) (read : w ≡ slice_index ws i) (fits :
       ∙ ap₂ ◌&&◌ (ap (bit k) read ∙ sym (at_place ws (64 * i + k) i k h refl)) (not_bit k 64 m h fits ∙ ap not (low k h))
 
   -- where that is zero no mark of the word from b on is set
-  pub rest_none : bit_and w ((2 ^ 64 - 1) - m) ≡ 0 → (d : ℕ) → b ≤ d → 64 * i ≤ d → d < 64 * (i + 1) → marked ws d ≡ false
+  pub rest_none : bit_and w ((2 ^ 64 - 1) - m) ≡ 0 → (d : ℕ) → b ≤ d → d / 64 ≡ i → marked ws d ≡ false
   unfolding rest
-  rest_none e d h p q =
+  rest_none e d h p =
       let k : d - 64 * i < 64 = omega arith in
       let place : 64 * i + (d - 64 * i) ≡ d = omega arith in
       let off : (marked ws (64 * i + (d - 64 * i)) && not (nat_lt (64 * i + (d - 64 * i)) b)) ≡ false = sym (rest_bit (d - 64 * i) k) ∙ ap (bit (d - 64 * i)) e ∙ zero_bit (d - 64 * i) in
@@ -87,14 +87,14 @@ module _ (ws : List ℕ) (b i w m : ℕ) (read : w ≡ slice_index ws i) (fits :
       ⊎_elim (λ (x : marked ws d ≡ false). x) (λ x. absurd (true≢false (sym kept ∙ x)))
       (and_cases (marked ws d) (not (nat_lt d b)) (subst (λ n. (marked ws n && not (nat_lt n b)) ≡ false) place off))
 
-  -- and where no mark from b on is set that is zero
-  pub rest_zero : w < 2 ^ 64 → ((d : ℕ) → b ≤ d → marked ws d ≡ false) → bit_and w ((2 ^ 64 - 1) - m) ≡ 0
+  -- and where no mark of the word from b on is set that is zero
+  pub rest_zero : w < 2 ^ 64 → ((d : ℕ) → b ≤ d → d / 64 ≡ i → marked ws d ≡ false) → bit_and w ((2 ^ 64 - 1) - m) ≡ 0
   unfolding rest
-  rest_zero p none = no_bits 64 rest (omega (arith, and_le_l w ((2 ^ 64 - 1) - m))) (λ k h. rest_bit k h ∙ off k)
+  rest_zero p none = no_bits 64 rest (omega (arith, and_le_l w ((2 ^ 64 - 1) - m))) (λ k h. rest_bit k h ∙ off k h)
     where
-      off : (k : ℕ) → (marked ws (64 * i + k) && not (nat_lt (64 * i + k) b)) ≡ false
-      off k = ⊎_elim (λ (l : 64 * i + k < b). and_right (marked ws (64 * i + k)) (not (nat_lt (64 * i + k) b)) (ap not (lt-ltb (64 * i + k) b l)))
-          (λ (l : b ≤ 64 * i + k). and_left (marked ws (64 * i + k)) (not (nat_lt (64 * i + k) b)) (none (64 * i + k) l)) (cases_lt (64 * i + k) b)
+      off : (k : ℕ) → k < 64 → (marked ws (64 * i + k) && not (nat_lt (64 * i + k) b)) ≡ false
+      off k h = ⊎_elim (λ (l : 64 * i + k < b). and_right (marked ws (64 * i + k)) (not (nat_lt (64 * i + k) b)) (ap not (lt-ltb (64 * i + k) b l)))
+          (λ (l : b ≤ 64 * i + k). and_left (marked ws (64 * i + k)) (not (nat_lt (64 * i + k) b)) (none (64 * i + k) l (omega arith))) (cases_lt (64 * i + k) b)
 
 -- the 64 marks from mark d on, of two neighbouring words
 pub from_place : (ws : List ℕ) (d k : ℕ) → k < 64

@@ -5,15 +5,16 @@
 
 #![tactic(auto)]
 
-ghost use Rattle.std.specs.Prelude.{◌≡◌, ◌<◌, true, false, ◌&&◌, if◌then◌else◌, nat_lt};
-ghost use Rattle.mitl.specs.Memory.{clean, new_memory, took, ahead, Lasts};
-ghost use Rattle.bit_marks.specs.Marks.{marked, meaning_of, served, sound};
+ghost use Rattle.std.specs.Prelude.{◌≡◌};
+ghost use Rattle.bit_marks.specs.Marks.{meaning_of, served};
 ghost use Rattle.bit_marks.specs.Means.{marks_within};
 ghost use Rattle.std.proofs.Common.{rules};
 
+use content::Settled;
 use window::{Admission, WindowMemory};
-use words::{WORDS, advanced, all_below, mark, stretch_count};
+use words::Marks;
 
+mod content;
 mod words;
 
 // The most marks that are kept.
@@ -24,7 +25,7 @@ const LIMIT: u32 = 1_000;
 pub struct BitMarks {
     a: u32,
     b: u32,
-    words: [u64; WORDS],
+    marks: Marks,
 }
 
 // Whether this kind has marks enough for the window from a to b.
@@ -32,79 +33,6 @@ fn serves(a: u32, b: u32) -> bool
     ensures { result ≡ served a b }
 {
     a < b && b <= LIMIT
-}
-
-// Where the marks end that n ticks with this operand set: at b, or at 0 where they set none.
-fn set_end(b: u32, operand: bool, n: u32) -> u32
-    ensures { result ≡ (if operand && nat_lt 0 n then b else 0) }
-{
-    if operand && n > 0 { b } else { 0 }
-}
-
-impl BitMarks {
-    // The window from a to b with all marks no.
-    fn empty(a: u32, b: u32) -> BitMarks
-        requires { served a b ≡ true }
-        ensures sound { sound result ≡ true }
-        ensures means { meaning_of result ≡ clean a b }
-    {
-        let words = [0; WORDS];
-        BitMarks { a, b, words }
-    }
-
-    // A new memory.
-    fn fresh() -> BitMarks
-        ensures sound { sound result ≡ true }
-        ensures means { meaning_of result ≡ new_memory }
-    {
-        BitMarks::empty(0, 1)
-    }
-
-    // The memory itself where this kind made its content, else a new one.
-    fn settled(self) -> BitMarks
-        ensures sound { sound result ≡ true }
-        ensures means { meaning_of result ≡ meaning_of self }
-    {
-        if serves(self.a, self.b) && all_below(&self.words, self.b as usize) {
-            self
-        } else {
-            BitMarks::fresh()
-        }
-    }
-
-    // The memory after n ticks at which the operand has this value.
-    fn after(self, operand: bool, n: u32) -> BitMarks
-        requires { sound self ≡ true }
-        ensures { meaning_of result ≡ took operand n (meaning_of self) }
-    {
-        // the marks from a - n on and below b are within reach of the ticks taken
-        let first = self.a.saturating_sub(n) as usize;
-        let end = set_end(self.b, operand, n) as usize;
-        let words = advanced(&self.words, self.b as usize, n as usize, first, end);
-        BitMarks { words, ..self }
-    }
-
-    // The verdict d ticks ahead, if the operand stays as it is.
-    fn verdict(&self, operand: bool, d: u32) -> bool
-        ensures { result ≡ ahead self.now.a operand (marked self.now.words) d }
-    {
-        mark(&self.words, d as usize) || operand && self.a <= d
-    }
-
-    // The verdict of the next tick and how long it lasts: from tick b on it is the operand.
-    fn forecast(&self, operand: bool) -> (bool, Option<u32>)
-        requires { sound self.now ≡ true }
-        ensures next { result.0 ≡ ahead self.now.a operand (marked self.now.words) 0 }
-        ensures lasts { Lasts (ahead self.now.a operand (marked self.now.words)) result.0 result.1 }
-    {
-        let next = self.verdict(operand, 0);
-        for d in 1..self.b + 1 {
-            if self.verdict(operand, d) != next {
-                return (next, Some(d));
-            }
-        }
-        (next, None)
-    }
 }
 
 impl Admission for BitMarks {
@@ -125,12 +53,12 @@ impl WindowMemory for BitMarks {
     ghost within = { λ m d h. marks_within m d h };
 
     fn new() -> BitMarks {
-        BitMarks::fresh()
+        Settled::fresh().content
     }
 
     fn prepare(&mut self, a: u32, b: u32) -> bool {
         if serves(a, b) {
-            *self = BitMarks::empty(a, b);
+            *self = Settled::empty(a, b).content;
             true
         } else {
             false
@@ -138,24 +66,22 @@ impl WindowMemory for BitMarks {
     }
 
     fn clear(&mut self) {
-        let m = self.settled();
-        *self = BitMarks::empty(m.a, m.b);
+        *self = Settled::from(*self).cleared().content;
     }
 
     fn look(&self, d: u32) -> bool {
-        mark(&self.settled().words, d as usize)
+        Settled::from(*self).look(d)
     }
 
     fn take(&mut self, operand: bool, n: u32) {
-        *self = self.settled().after(operand, n);
+        *self = Settled::from(*self).after(operand, n).content;
     }
 
     fn run(&self, operand: bool) -> (bool, Option<u32>) {
-        self.settled().forecast(operand)
+        Settled::from(*self).forecast(operand)
     }
 
     fn count(&self) -> u32 {
-        let m = self.settled();
-        stretch_count(&m.words, m.b as usize)
+        Settled::from(*self).count()
     }
 }

@@ -1,6 +1,7 @@
 -- Episodes that age where they stand. Assumes nothing.
 use Rattle.std.proofs.Common.{◌≡◌, ℕ, zero, suc, ◌+◌, ◌-◌, ◌<◌, ◌≤◌, min, cond, ltb, List, [], ◌∷◌, ◌++◌, length, get_or, take, drop, set, replicate, sym, refl, ap, ◌∙◌, arith}
-use Rattle.std.proofs.lemmas.List.{append_assoc, append-nil, drop_more, get_or_at, length-append, length_push, length-replicate, length-take-le, set_at, take-append-drop}
+use Rattle.std.proofs.lemmas.List.{append_assoc, append-nil, drop_more, get_or_at, length-append, length_push, length-replicate, length-take-le, set_at, take-append-drop, take-take}
+use Rattle.std.proofs.Math.Nat.{sub_self}
 use Rattle.std.proofs.lemmas.Bool.{cond-true, cond-false, lt-ltb, le-ltb}
 use Rattle.clock_pairs.specs.declared.Episode.{Episode}
 use Rattle.clock_pairs.specs.Episodes.{aged, episode, lasting, older}
@@ -28,18 +29,9 @@ aged_start b n from len old le room =
       front = take from old;
       size = length-take-le from old (omega arith);
       low = omega arith;
-      stand = sym (ap (λ k. take from old ++ (zeros k ++ drop from old)) (no_more from) ∙ take-append-drop from old);
-      list = ap (λ es. es ++ lasting b n (drop from (take len old))) (sym (take_take from len old le));
+      stand = sym (ap (λ k. take from old ++ (zeros k ++ drop from old)) (sub_self from) ∙ take-append-drop from old);
+      list = ap (λ es. es ++ lasting b n (drop from (take len old))) (sym (take-take from len old le));
     }
-  where
-    no_more : (k : ℕ) → k - k ≡ 0
-    no_more k = omega arith
-
-    take_take : (i j : ℕ) (xs : List Episode) → i ≤ j → take i (take j xs) ≡ take i xs
-    take_take zero j xs h = refl
-    take_take (suc i) zero xs h = absurd (omega arith)
-    take_take (suc i) (suc j) [] h = refl
-    take_take (suc i) (suc j) (x ∷ xs) h = ap (λ es. x ∷ es) (take_take i j xs (omega arith))
 
 module _ (b n from len used i : ℕ) (old places : List Episode) (g : Aged b n from len used i old places) (lt : i < len) (room : len ≤ length old) where
   abbrev here : Episode

@@ -22,6 +22,9 @@ decides_apart a b low (e ∷ es) =
     (Decides-and _ _ (Decides-ltb e.fall e.rise)
     (Decides-and _ _ (decides_leb e.rise b) (decides_apart a b (e.rise + (b - a) + 1) es))))
 
+pub gaps_of : (a b low : ℕ) (es : List Episode) → apart a b low es ≡ true → Apart a b low es
+gaps_of a b low es = (decides_apart a b low es).0
+
 module _ (a b : ℕ) where
   -- each episode takes b - a + 2 ticks at least
   width : (low : ℕ) (e : Episode) (es : List Episode) → Apart a b low (e ∷ es) → low + (b - a + 2) * length es < b

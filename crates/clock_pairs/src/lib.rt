@@ -6,7 +6,7 @@
 
 #![tactic(auto)]
 
-ghost use Rattle.std.specs.Prelude.{◌≡◌, ◌+◌, ◌-◌, ◌<◌, ◌≤◌, min, Bool, true, false, ◌⊎◌, [], ◌∷◌, ◌++◌, length, take, drop, replicate, nat_le};
+ghost use Rattle.std.specs.Prelude.{◌≡◌, ◌+◌, ◌-◌, ◌<◌, ◌≤◌, min, Bool, true, false, ◌⊎◌, [], ◌∷◌, ◌++◌, length, take, drop, replicate, nat_le, MatchOption, IfSome};
 ghost use Rattle.clock_pairs.specs.Episodes.{aged, apart, covers, episode, lasting, older, reached, served, vacant};
 ghost use Rattle.clock_pairs.specs.Meanings.{goes_on, held, holding, meaning_of, sound, told};
 ghost use Rattle.mitl.specs.Memory.{ahead, cleared, counted, Lasts, most_stretches_lem, took};
@@ -30,6 +30,14 @@ struct Episode {
     fall: u32,
 }
 
+// A served window, from a to b.
+#[derive(Clone, Copy)]
+struct Window {
+    a: u32,
+    b: u32,
+    ghost is_served: { served a b ≡ true },
+}
+
 // A window from a to b and its episodes.
 #[derive(Clone, Copy)]
 pub struct ClockPairs {
@@ -37,8 +45,23 @@ pub struct ClockPairs {
     b: u32,
     // how many episodes there are
     len: u32,
-    // the episodes, newest first; the places behind them hold zeros
+    // the episodes, newest first; the places behind them are vacant
     episodes: [Episode; MOST],
+}
+
+// Content that this kind made, lent for reading: a served window and its episodes, newest first.
+#[derive(Clone, Copy)]
+struct Settled<'a> {
+    window: Window,
+    episodes: &'a [Episode],
+    ghost gaps: { apart window.a window.b 0 episodes.now ≡ true },
+}
+
+// Content that this kind made, lent to be changed.
+#[derive(Drop)]
+struct SettledMut<'a> {
+    pairs: &'a mut ClockPairs,
+    ghost sound: { sound pairs.now ≡ true },
 }
 
 // An age n ticks on: once it has reached b it stays at b.
@@ -49,6 +72,9 @@ fn grown(age: u32, n: u32, b: u32) -> u32
 }
 
 impl Episode {
+    // What a place without an episode holds.
+    const VACANT: Episode = Episode { rise: 0, fall: 0 };
+
     // The episode n ticks on.
     fn grow(self, n: u32, b: u32) -> Episode
         ensures { result ≡ older b n self }
@@ -74,10 +100,10 @@ impl Episode {
     }
 
     // Whether the tick d ahead is within its reach.
-    fn reaches(self, a: u32, b: u32, d: u32) -> bool
-        ensures { result ≡ covers a b self d }
+    fn reaches(self, window: Window, d: u32) -> bool
+        ensures { result ≡ covers window.a window.b self d }
     {
-        self.start(a) <= d && d < self.end(b)
+        self.start(window.a) <= d && d < self.end(window.b)
     }
 }
 
@@ -96,16 +122,15 @@ fn serves(a: u32, b: u32) -> bool
     a < b && b <= DAY && has_room(a, b)
 }
 
-// Whether the places from this one on are empty.
-fn empty_from(places: &[Episode], from: usize) -> bool
-    requires { from ≤ length places.now }
-    ensures { result ≡ vacant (drop from places.now) }
+// Whether no place holds an episode. The numbers are joined without a branch: places compared one by one with
+// `Episode::VACANT` took twice as long.
+fn all_vacant(places: &[Episode]) -> bool
+    ensures { result ≡ vacant places.now }
 {
-    let mut any = 0;
-    for i in from..places.len() {
-        any |= places[i].rise | places[i].fall;
-    }
-    any == 0
+    places
+        .iter()
+        .fold(0, |any, place| any | place.rise | place.fall)
+        == 0
 }
 
 // The episodes in the first `len` places, from place `from` on, n ticks on where they stand and without those that fell
@@ -116,9 +141,10 @@ fn age(places: &mut [Episode], from: u32, len: u32, n: u32, b: u32) -> u32
     ensures stand { places.new ≡ aged b n from (take len places.old) ++ (replicate (len - result) (episode 0 0) ++ drop len places.old) }
 {
     let mut used = from;
+    // by index: an iterator over the places would not let the earlier ones be written
     for i in from as usize..len as usize {
         let e = places[i].grow(n, b);
-        places[i] = Episode { rise: 0, fall: 0 };
+        places[i] = Episode::VACANT;
         if e.fall < b {
             places[used as usize] = e;
             used += 1;
@@ -127,17 +153,9 @@ fn age(places: &mut [Episode], from: u32, len: u32, n: u32, b: u32) -> u32
     used
 }
 
-// How many episodes stand in the first so many places.
-fn in_use(places: &[Episode], len: u32) -> u32
-    ensures { result ≡ length (take len places.now) }
-{
-    (len as usize).min(places.len()) as u32
-}
-
 // The verdict of the next tick and how long it lasts, without an episode.
 fn idle(a: u32, operand: bool) -> (bool, Option<u32>)
-    ensures next { result.0 ≡ ahead a operand (λ _. false) 0 }
-    ensures lasts { Lasts (ahead a operand (λ _. false)) result.0 result.1 }
+    ensures { Lasts (ahead a operand (λ _. false)) result.0 result.1 }
 {
     if !operand {
         (false, None)
@@ -148,74 +166,24 @@ fn idle(a: u32, operand: bool) -> (bool, Option<u32>)
     }
 }
 
-impl ClockPairs {
-    // The window from a to b without an episode.
-    fn empty(a: u32, b: u32) -> ClockPairs
-        ensures { result ≡ holding a b [] }
+impl Window {
+    // The window from a to b, if it is served.
+    fn new(a: u32, b: u32) -> Option<Window>
+        ensures { MatchOption result (served a b ≡ false) (λ w. (served a b ≡ true) × (w.a ≡ a) × (w.b ≡ b)) }
     {
-        ClockPairs {
-            a,
-            b,
-            len: 0,
-            episodes: [Episode { rise: 0, fall: 0 }; MOST],
+        if serves(a, b) {
+            Some(Window { a, b })
+        } else {
+            None
         }
-    }
-
-    // A new memory.
-    fn fresh() -> ClockPairs
-        ensures { result ≡ holding 0 1 [] }
-    {
-        ClockPairs::empty(0, 1)
-    }
-
-    // Puts an episode behind the others.
-    fn push(&mut self, e: Episode)
-        requires tidy { self.old ≡ holding self.old.a self.old.b (held self.old) }
-        requires room { self.old.len < 32 }
-        ensures { self.new ≡ holding self.old.a self.old.b (held self.old ++ e ∷ []) }
-    {
-        self.episodes[self.len as usize] = e;
-        self.len += 1;
-    }
-
-    // `next` with the episodes from place `from` on behind its own, n ticks on and without those that fell b ticks ago.
-    fn carried(&self, from: u32, n: u32, mut next: ClockPairs) -> ClockPairs
-        requires len { self.now.len ≤ 32 }
-        requires tidy { next ≡ holding next.a next.b (held next) }
-        requires room { length (held next ++ lasting self.now.b n (drop from (held self.now))) ≤ 32 }
-        ensures { result ≡ holding next.a next.b (held next ++ lasting self.now.b n (drop from (held self.now))) }
-    {
-        for i in from as usize..self.len as usize {
-            let e = self.episodes[i].grow(n, self.b);
-            if e.fall < self.b {
-                next.push(e);
-            }
-        }
-        next
-    }
-
-    // Whether an episode reaches the tick d ahead.
-    fn marks(&self, d: u32) -> bool
-        requires { self.now.len ≤ 32 }
-        ensures { result ≡ reached self.now.a self.now.b (held self.now) d }
-    {
-        for i in 0..self.len as usize {
-            if self.episodes[i].reaches(self.a, self.b, d) {
-                return true;
-            }
-        }
-        false
     }
 
     // Whether the episodes are newest first, none older than b, with gaps longer than b - a ticks.
-    fn in_order(&self) -> bool
-        requires window { (self.now.a ≤ self.now.b) × (self.now.b ≤ 864000) }
-        requires len { self.now.len ≤ 32 }
-        ensures { result ≡ apart self.now.a self.now.b 0 (held self.now) }
+    fn orders(self, episodes: &[Episode]) -> bool
+        ensures { result ≡ apart self.a self.b 0 episodes.now }
     {
         let mut low = 0;
-        for i in 0..self.len as usize {
-            let e = self.episodes[i];
+        for e in episodes {
             if e.fall < low || e.rise <= e.fall || self.b < e.rise {
                 return false;
             }
@@ -223,43 +191,75 @@ impl ClockPairs {
         }
         true
     }
+}
 
-    // Whether this kind made the content.
-    fn is_sound(&self) -> bool
-        ensures { result ≡ sound self.now }
+impl Settled<'_> {
+    // Whether an episode reaches the tick d ahead.
+    fn marks(&self, d: u32) -> bool
+        ensures { result ≡ reached self.now.window.a self.now.window.b self.now.episodes.now d }
     {
-        serves(self.a, self.b)
-            && self.len as usize <= MOST
-            && self.in_order()
-            && empty_from(&self.episodes, self.len as usize)
+        self.episodes.iter().any(|e| e.reaches(self.window, d))
     }
 
-    // Whether a yes goes on with the newest episode: that fell at most b - a ticks ago, so that the gap is erased.
-    fn goes_on(&self) -> bool
-        requires { self.now.a ≤ self.now.b }
-        ensures { result ≡ goes_on self.now }
+    // The verdict of the next tick and how long it lasts: the oldest episode tells.
+    fn forecast(&self, operand: bool) -> (bool, Option<u32>)
+        ensures { Lasts (ahead self.now.window.a operand (reached self.now.window.a self.now.window.b self.now.episodes.now)) result.0 result.1 }
     {
-        self.len > 0 && self.episodes[0].fall <= self.b - self.a
+        let Some(oldest) = self.episodes.last() else {
+            return idle(self.window.a, operand);
+        };
+        let start = oldest.start(self.window.a);
+        let end = oldest.end(self.window.b);
+        if start > 0 {
+            (false, Some(start))
+        } else if operand && self.window.a <= end {
+            (true, None)
+        } else {
+            (true, Some(end))
+        }
     }
 
-    // The window with one episode, in which the operand is yes.
-    fn rising(a: u32, b: u32, rise: u32) -> ClockPairs
-        ensures { result ≡ holding a b (episode rise 0 ∷ []) }
+    // How many episodes there are.
+    fn count(&self) -> u32
+        ensures counts { result ≡ counted (told self.now.window.a self.now.window.b self.now.episodes.now) }
+        ensures few { result ≤ most_stretches_lem self.now.window.a self.now.window.b }
     {
-        let mut next = ClockPairs::empty(a, b);
-        next.push(Episode { rise, fall: 0 });
-        next
+        self.episodes.len() as u32
+    }
+}
+
+impl ClockPairs {
+    // The window without an episode.
+    fn empty(window: Window) -> ClockPairs
+        ensures { result ≡ holding window.a window.b [] }
+    {
+        ClockPairs {
+            a: window.a,
+            b: window.b,
+            len: 0,
+            episodes: [Episode::VACANT; MOST],
+        }
     }
 
-    // The memory after n ticks, n at least 1, at which the operand is yes and a new episode rises.
-    fn after_rise(self, n: u32) -> ClockPairs
-        requires sound { sound self ≡ true }
-        requires ticks { 0 < n }
-        requires new { false ≡ goes_on self }
-        ensures { meaning_of result ≡ took true n (told self.a self.b (held self)) }
+    // A new memory.
+    fn fresh() -> ClockPairs
+        ensures { result ≡ holding 0 1 [] }
     {
-        let rise = grown(0, n, self.b);
-        self.carried(0, n, ClockPairs::rising(self.a, self.b, rise))
+        ClockPairs::empty(Window { a: 0, b: 1 })
+    }
+
+    // The window and its episodes, if this kind made the content.
+    fn settled(&self) -> Option<Settled<'_>>
+        ensures made { MatchOption result (sound self.now ≡ false) (λ _. sound self.now ≡ true) }
+        ensures means { IfSome result (λ s. meaning_of self.now ≡ told s.window.a s.window.b s.episodes.now) }
+    {
+        let window = Window::new(self.a, self.b)?;
+        let (episodes, rest) = self.episodes.split_at_checked(self.len as usize)?;
+        if window.orders(episodes) && all_vacant(rest) {
+            Some(Settled { window, episodes })
+        } else {
+            None
+        }
     }
 
     // The episodes from place `from` on are n ticks on, without those that fell b ticks ago.
@@ -274,59 +274,40 @@ impl ClockPairs {
         self.len = age(&mut self.episodes, from, len, n, b);
     }
 
+    // Puts an episode in front of the others.
+    fn put_first(&mut self, e: Episode)
+        requires { self.old.len < 32 }
+        ensures window { (self.new.a ≡ self.old.a) × (self.new.b ≡ self.old.b) }
+        ensures many { self.new.len ≡ self.old.len + 1 }
+        ensures stand { self.new.episodes ≡ (e ∷ held self.old) ++ drop (self.old.len + 1) self.old.episodes }
+    {
+        self.episodes.copy_within(..self.len as usize, 1);
+        self.episodes[0] = e;
+        self.len += 1;
+    }
+
     // Content that this kind did not make gives way to a new memory.
-    fn settle(&mut self)
-        ensures sound { sound self.new ≡ true }
-        ensures means { meaning_of self.old ≡ told self.new.a self.new.b (held self.new) }
+    fn settle(&mut self) -> SettledMut<'_>
+        ensures same { result.pairs.ghost_name ≡ self.entry.ghost_name }
+        ensures means { meaning_of result.pairs.now ≡ meaning_of self.old }
     {
-        if self.is_sound() {
-            return;
+        if self.settled().is_none() {
+            *self = ClockPairs::fresh();
         }
-        *self = ClockPairs::fresh();
-    }
-
-    // Takes n ticks at which the operand is no, or none.
-    fn take_no(&mut self, n: u32)
-        requires { sound self.old ≡ true }
-        ensures { (v : Bool) → (v ≡ false) ⊎ (n ≡ 0) → meaning_of self.new ≡ took v n (told self.old.a self.old.b (held self.old)) }
-    {
-        self.grow_old(0, n);
-    }
-
-    // Takes n ticks, n at least 1, at which the operand is yes and goes on with the newest episode.
-    fn take_on(&mut self, n: u32)
-        requires sound { sound self.old ≡ true }
-        requires ticks { 0 < n }
-        requires on { true ≡ goes_on self.old }
-        ensures { meaning_of self.new ≡ took true n (told self.old.a self.old.b (held self.old)) }
-    {
-        let rise = grown(self.episodes[0].rise, n, self.b);
-        self.episodes[0] = Episode { rise, fall: 0 };
-        self.grow_old(1, n);
-    }
-
-    // Takes n ticks, n at least 1, at which the operand is yes.
-    fn take_yes(&mut self, n: u32)
-        requires sound { sound self.old ≡ true }
-        requires ticks { 0 < n }
-        ensures { meaning_of self.new ≡ took true n (told self.old.a self.old.b (held self.old)) }
-    {
-        if self.goes_on() {
-            self.take_on(n);
-        } else {
-            *self = self.after_rise(n);
-        }
+        SettledMut { pairs: self }
     }
 
     // Takes n ticks at which the operand has this value.
     fn tell(&mut self, operand: bool, n: u32)
         ensures { meaning_of self.new ≡ took operand n (meaning_of self.old) }
     {
-        self.settle();
-        if operand && n > 0 {
-            self.take_yes(n);
+        let settled = self.settle();
+        if !operand || n == 0 {
+            settled.take_no(n);
+        } else if settled.goes_on() {
+            settled.take_on(n);
         } else {
-            self.take_no(n);
+            settled.take_rise(n);
         }
     }
 
@@ -334,30 +315,10 @@ impl ClockPairs {
     fn forget(&mut self)
         ensures { meaning_of self.new ≡ cleared (meaning_of self.old) }
     {
-        self.settle();
-        *self = ClockPairs::empty(self.a, self.b);
-    }
-
-    // The verdict of the next tick and how long it lasts: the oldest episode tells.
-    fn forecast(&self, operand: bool) -> (bool, Option<u32>)
-        requires { sound self.now ≡ true }
-        ensures next { result.0 ≡ ahead self.now.a operand (reached self.now.a self.now.b (held self.now)) 0 }
-        ensures lasts { Lasts (ahead self.now.a operand (reached self.now.a self.now.b (held self.now))) result.0 result.1 }
-    {
-        let a = self.a;
-        if self.len == 0 {
-            return idle(a, operand);
-        }
-        let oldest = self.episodes[self.len as usize - 1];
-        let start = oldest.start(a);
-        let end = oldest.end(self.b);
-        if start > 0 {
-            (false, Some(start))
-        } else if operand && a <= end {
-            (true, None)
-        } else {
-            (true, Some(end))
-        }
+        *self = match self.settled() {
+            Some(settled) => ClockPairs::empty(settled.window),
+            None => ClockPairs::fresh(),
+        };
     }
 
     // The reply on the run that begins.
@@ -365,10 +326,9 @@ impl ClockPairs {
         ensures next { result.0 ≡ ahead (meaning_of self.now).a operand (meaning_of self.now).mark 0 }
         ensures lasts { Lasts (ahead (meaning_of self.now).a operand (meaning_of self.now).mark) result.0 result.1 }
     {
-        if self.is_sound() {
-            self.forecast(operand)
-        } else {
-            idle(0, operand)
+        match self.settled() {
+            Some(settled) => settled.forecast(operand),
+            None => idle(0, operand),
         }
     }
 
@@ -376,7 +336,10 @@ impl ClockPairs {
     fn mark(&self, d: u32) -> bool
         ensures { result ≡ (meaning_of self.now).mark d }
     {
-        self.is_sound() && self.marks(d)
+        match self.settled() {
+            Some(settled) => settled.marks(d),
+            None => false,
+        }
     }
 
     // How many episodes there are.
@@ -384,11 +347,52 @@ impl ClockPairs {
         ensures counts { result ≡ counted (meaning_of self.now) }
         ensures few { result ≤ most_stretches_lem (meaning_of self.now).a (meaning_of self.now).b }
     {
-        if self.is_sound() {
-            in_use(&self.episodes, self.len)
-        } else {
-            0
+        match self.settled() {
+            Some(settled) => settled.count(),
+            None => 0,
         }
+    }
+}
+
+impl SettledMut<'_> {
+    // Whether a yes goes on with the newest episode: that fell at most b - a ticks ago, so that the gap is erased.
+    fn goes_on(&self) -> bool
+        ensures { result ≡ goes_on self.now.pairs.now }
+    {
+        let pairs = &*self.pairs;
+        pairs.len > 0 && pairs.episodes[0].fall <= pairs.b - pairs.a
+    }
+
+    // Takes n ticks at which the operand is no, or none.
+    fn take_no(self, n: u32)
+        ensures { (v : Bool) → (v ≡ false) ⊎ (n ≡ 0) → meaning_of self.exit.0.now ≡ took v n (meaning_of self.entry.pairs.now) }
+    {
+        let SettledMut { pairs } = self;
+        pairs.grow_old(0, n);
+    }
+
+    // Takes n ticks, n at least 1, at which the operand is yes and goes on with the newest episode.
+    fn take_on(self, n: u32)
+        requires ticks { 0 < n }
+        requires on { true ≡ goes_on self.pairs.now }
+        ensures { meaning_of self.exit.0.now ≡ took true n (meaning_of self.entry.pairs.now) }
+    {
+        let SettledMut { pairs } = self;
+        let rise = grown(pairs.episodes[0].rise, n, pairs.b);
+        pairs.episodes[0] = Episode { rise, fall: 0 };
+        pairs.grow_old(1, n);
+    }
+
+    // Takes n ticks, n at least 1, at which the operand is yes and a new episode rises.
+    fn take_rise(self, n: u32)
+        requires ticks { 0 < n }
+        requires new { false ≡ goes_on self.pairs.now }
+        ensures { meaning_of self.exit.0.now ≡ took true n (meaning_of self.entry.pairs.now) }
+    {
+        let SettledMut { pairs } = self;
+        let rise = grown(0, n, pairs.b);
+        pairs.grow_old(0, n);
+        pairs.put_first(Episode { rise, fall: 0 });
     }
 }
 
@@ -414,12 +418,11 @@ impl WindowMemory for ClockPairs {
     }
 
     fn prepare(&mut self, a: u32, b: u32) -> bool {
-        if serves(a, b) {
-            *self = ClockPairs::empty(a, b);
-            true
-        } else {
-            false
-        }
+        let Some(window) = Window::new(a, b) else {
+            return false;
+        };
+        *self = ClockPairs::empty(window);
+        true
     }
 
     fn clear(&mut self) {

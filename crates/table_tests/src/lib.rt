@@ -5,6 +5,7 @@
 ghost use Rattle.std.specs.Prelude.{nat_le};
 
 use mitl::Row;
+use refusal::Refusal;
 use table::{decode, decode_any};
 use window::Admission;
 
@@ -295,7 +296,7 @@ fn reply<A: Admission>(bytes: &[u8]) -> (u32, u32) {
     match decode::<A>(bytes) {
         Ok(_) => (0, 0),
         Err(fault) => {
-            let refusal = fault.refusal();
+            let refusal = Refusal::from(fault);
             (refusal.number, refusal.place)
         }
     }
