@@ -35,8 +35,8 @@ fn window_of(row: Row) -> Option<(u32, u32)>
     }
 }
 
-// Where the part of the car at this place begins and ends, if the list is that long. The callers lend the part
-// themselves: of notes that a closure holds nothing would be known where it is not called.
+// Where the part of the car at this place begins and ends, if the list is that long. Each caller lends the part itself:
+// handed in as a closure, a call that writes notes would leave nothing known of them where the list is too short.
 fn span(plan: &Plan, at: usize, len: usize) -> Option<(usize, usize)>
     ensures { Spanned at (timed_rows (rows_of plan.now)) len result }
 {
