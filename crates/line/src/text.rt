@@ -3,6 +3,7 @@
 ghost use Rattle.std.specs.Prelude.{◌≡◌, ◌+◌, ◌<◌, ◌≤◌, [], ◌∷◌, ◌++◌, length, drop, decimal};
 ghost use Rattle.line.specs.Lines.{numbers_line, note_line, car_line, counts_line, refusal_line};
 
+use itoa::write_digits;
 use plan::Counts;
 use record::{Car, Note};
 use refusal::Refusal;
@@ -47,17 +48,7 @@ impl Text {
         ensures start { self.old.start ≤ self.new.start + 21 }
         ensures line { drop self.new.start self.new.bytes ≡ 32 ∷ (decimal number ++ drop self.old.start self.old.bytes) }
     {
-        let mut at = self.start;
-        let mut left = number;
-        loop {
-            at -= 1;
-            self.bytes[at] = b'0' + (left % 10) as u8;
-            left /= 10;
-            if left == 0 {
-                break;
-            }
-        }
-        self.start = at;
+        self.start = write_digits(number, &mut self.bytes, self.start);
         self.put(b' ');
     }
 
@@ -68,8 +59,8 @@ impl Text {
     {
         self.start = ROOM;
         self.put(b'\n');
-        for i in (0..numbers.len()).rev() {
-            self.number(numbers[i]);
+        for number in numbers.iter().rev() {
+            self.number(*number);
         }
         self.put(letter);
     }
