@@ -13,7 +13,8 @@ use std::io::Write;
 // The bytes of the longest line: a letter, three numbers of a space and twenty digits each, and a line feed.
 const ROOM: usize = 65;
 
-// A line, put together from its end: it stands in the bytes from `start` on.
+// A line, put together from its end: it stands in the bytes from `start` on. As a string of fixed capacity (ArrayString),
+// to which the digits are copied, it took up to a twentieth more of all the time of carwatch.
 #[derive(Drop)]
 pub struct Text {
     bytes: [u8; ROOM],
@@ -65,7 +66,8 @@ impl Text {
         self.put(letter);
     }
 
-    // Makes it the line of a note.
+    // Makes it the line of a note: the lines of many notes are laid out in one text, since a new text for each took a
+    // hundredth more of all the time of carwatch.
     pub fn set_note(&mut self, note: Note)
         ensures { drop self.new.start self.new.bytes ≡ note_line note }
     {
@@ -73,26 +75,36 @@ impl Text {
         self.set(b'V', &[car, note.word as u64, note.ticks as u64]);
     }
 
-    // Makes it the line of a car that restarted or ended.
-    pub fn set_car(&mut self, car: Car)
-        ensures { drop self.new.start self.new.bytes ≡ car_line car }
+    // The line of a letter and up to three numbers.
+    fn with(letter: u8, numbers: &[u64]) -> Text
+        requires { length numbers.now ≤ 3 }
+        ensures { drop result.start result.bytes ≡ letter ∷ numbers_line numbers.now }
     {
-        self.set(b'K', &[car.number as u64]);
+        let mut line = Text::new();
+        line.set(letter, numbers);
+        line
     }
 
-    // Makes it the line of a table that stands now.
-    pub fn set_counts(&mut self, counts: Counts)
-        ensures { drop self.new.start self.new.bytes ≡ counts_line counts }
+    // The line of a car that restarted or ended.
+    pub fn car(car: Car) -> Text
+        ensures { drop result.start result.bytes ≡ car_line car }
+    {
+        Text::with(b'K', &[car.number as u64])
+    }
+
+    // The line of a table that stands now.
+    pub fn counts(counts: Counts) -> Text
+        ensures { drop result.start result.bytes ≡ counts_line counts }
     {
         let rows = counts.rows as u64;
-        self.set(b'T', &[rows, counts.rules as u64, counts.timed as u64]);
+        Text::with(b'T', &[rows, counts.rules as u64, counts.timed as u64])
     }
 
-    // Makes it the line of a refusal.
-    pub fn set_refusal(&mut self, refusal: Refusal)
-        ensures { drop self.new.start self.new.bytes ≡ refusal_line refusal }
+    // The line of a refusal.
+    pub fn refusal(refusal: Refusal) -> Text
+        ensures { drop result.start result.bytes ≡ refusal_line refusal }
     {
-        self.set(b'X', &[refusal.number as u64, refusal.place as u64]);
+        Text::with(b'X', &[refusal.number as u64, refusal.place as u64])
     }
 
     // The line's bytes.
