@@ -48,12 +48,7 @@ fn main(rt: HostRuntime) -> io::Result<()> {
 }
 
 fn is_asked(rt: &HostRuntime) -> io::Result<bool> {
-    for word in env::args(rt)?.skip(1) {
-        if word.as_str() == "run" {
-            return Ok(true);
-        }
-    }
-    Ok(false)
+    Ok(env::args(rt)?.skip(1).any(|word| word.as_str() == "run"))
 }
 
 // Twelve rows, four of them timed. No window reaches further back than eight ticks, so that readings change at tick 8
@@ -129,21 +124,19 @@ fn row<M: WindowMemory>(
     println!(rt; "| {kind} | {ticks} | {record} | {notes} | {sum} |")
 }
 
+// The window of a timed row.
+fn window(row: &Row) -> Option<(u32, u32)> {
+    match *row {
+        Row::Once { a, b, .. } | Row::Always { a, b, .. } | Row::Since { a, b, .. } => Some((a, b)),
+        _ => None,
+    }
+}
+
 // Each timed row's memory for its window.
 fn prepare<M: WindowMemory>(plan: &Plan, part: &mut [M]) {
-    let mut at = 0;
-    for row in plan.rows.iter().take(plan.count) {
-        match *row {
-            Row::Once { a, b, .. } | Row::Always { a, b, .. } | Row::Since { a, b, .. } => {
-                if at < part.len() {
-                    let mut m = part[at];
-                    m.prepare(a, b);
-                    part[at] = m;
-                    at += 1;
-                }
-            }
-            _ => {}
-        }
+    let windows = plan.rows.iter().take(plan.count).filter_map(window);
+    for (memory, (a, b)) in part.iter_mut().zip(windows) {
+        memory.prepare(a, b);
     }
 }
 
