@@ -24,10 +24,6 @@ pub decides_outlook : (f : Formula) (h : List ℕ) (d : ℕ) → Decides (outloo
 decides_outlook f h d =
     decides_within _ _ (decides_counts f h (length h)) (from f) (to f) (length h + d) (length h)
 
--- there is no mark from b on
-pub outlook_ends : (f : Formula) (h : List ℕ) (d : ℕ) → to f ≤ d → Marked f h d → ⊥
-outlook_ends f h d past m = omega (arith, m.1, m.2)
-
 module _ (a b : ℕ) where
   abbrev Reach : (ℕ → Bool) → ℕ → ℕ → Type 0
   Reach c t d = (u : ℕ) × (u < t) × Window a b (t + d) u × (c u ≡ true)
