@@ -19,7 +19,8 @@ use Rattle.record.specs.declared.Car.{Car}
 use Rattle.record.specs.declared.Note.{Note}
 use Rattle.record.specs.declared.Record.{Record}
 use Rattle.record.specs.Layout.{is_R, is_I, is_E, fields_at}
-use Rattle.cars.specs.Cars.{same_car, listed}
+use Rattle.record.specs.Cars.{same_car}
+use Rattle.cars.specs.Cars.{listed}
 use Rattle.table.specs.Chain.{rows_in, numbers_in, on_chain, row_in, chain_length}
 use Rattle.plan.specs.Places.{place_among_lem}
 use Rattle.plan.proofs.Found.{found_place}

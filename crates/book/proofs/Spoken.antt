@@ -1,17 +1,18 @@
 -- The verdicts of a whole history, run by run and note by note. Assumes nothing.
-use Rattle.std.proofs.Common.{◌≡◌, ℕ, ◌+◌, ◌-◌, ◌<◌, ◌≤◌, Bool, true, false, cond, List, [], ◌∷◌, ◌++◌, map, length, get_or, take, replicate, sym, refl, ap, ◌∙◌, inl, inr, arith, length-append, length-take}
+use Rattle.std.proofs.Common.{◌≡◌, ℕ, ◌+◌, ◌-◌, ◌<◌, ◌≤◌, Bool, true, false, cond, List, [], ◌∷◌, ◌++◌, map, length, get_or, take, replicate, sym, ap, ◌∙◌, inl, inr, arith, length-append, length-take}
 use lib.ListN.{length-replicate}
 use Rattle.std.specs.List.{range_with_len}
 use Rattle.std.proofs.lemmas.List.FromFn.{length-map-range_with_len, get_or-map-range_with_len, take-map-range_with_len}
 use Rattle.std.proofs.lemmas.List.{append_assoc, append-nil, get_or_append_left, get_or-append_right, ext_get_or, replicate-append-replicate}
-use Rattle.std.proofs.lemmas.Bool.{cases_lt, cases_Bool, eq-eqb, eqb-true, cond-true, cond-false}
+use Rattle.std.proofs.lemmas.Bool.{cases_lt, cases_Bool, cond-true, cond-false}
 use Rattle.mitl.specs.declared.Row.{Row}
 use Rattle.mitl.specs.Rows.{verdict}
 use Rattle.mitl.specs.Runs.{Run, expanded, spelt, runs, ticks}
 use Rattle.mitl.proofs.Causal.{verdict_append}
 use Rattle.mitl.proofs.Runs.{runs_cut, expanded_take, length_expanded}
 use Rattle.record.specs.declared.Car.{Car}
-use Rattle.cars.specs.Cars.{same_car}
+use Rattle.record.specs.Cars.{same_car}
+use Rattle.record.proofs.Cars.{same_self, same_is}
 use Rattle.engine.specs.Due.{coming, due}
 use Rattle.engine.specs.Judged.{note}
 use Rattle.book.specs.Book.{with_car, noted}
@@ -70,12 +71,6 @@ module _ (rows : List Row) (h : List ℕ) (n w places : ℕ) where
       (λ i lt. sym (verdict_append rows h (replicate m w) i lt))
       (λ i low high. ap (λ x. verdict rows x i) longer ∙ verdict_append rows (h ++ replicate m w) (replicate (n - m) w) i (omega (arith, size)))
       ∙ ap (λ k. map (verdict rows (h ++ replicate m w)) (range_with_len 0 k)) (sym size)
-
-pub same_self : (c : Car) → same_car c c ≡ true
-same_self c = eq-eqb c.number c.number refl
-
-pub same_is : (d c : Car) → same_car d c ≡ true → d ≡ c
-same_is d c e = let n : d.number ≡ c.number = eqb-true d.number c.number e in λ i. record { number = n i }
 
 with_car_same : {X : Type 0} (c : Car) (x : X) (f : Car → X) → with_car c x f c ≡ x
 with_car_same c x f = cond-true (same_car c c) x (f c) (same_self c)

@@ -6,12 +6,12 @@ use Rattle.record.specs.declared.Car.{Car}
 use Rattle.record.specs.declared.Note.{Note}
 use Rattle.record.specs.declared.Record.{Record}
 use Rattle.record.specs.Layout.{is_R, is_E, is_I}
+use Rattle.record.specs.Cars.{same_car}
 use Rattle.table.specs.Chain.{rows_in}
 use Rattle.engine.specs.Due.{due}
 use Rattle.engine.specs.Judged.{note}
 use Rattle.cars.specs.declared.CarState.{CarState}
 use Rattle.cars.specs.declared.CarState.TheVariants.{Vacant, Running, Ended}
-use Rattle.cars.specs.Cars.{same_car}
 
 -- The table and the car list that stand, and for each car its state, the input words of its ticks taken since its
 -- restart, and the verdict words written for them.

@@ -10,13 +10,13 @@ use Rattle.record.specs.declared.Car.{Car}
 use Rattle.record.specs.declared.Note.{Note}
 use Rattle.record.specs.declared.Record.{Record}
 use Rattle.record.specs.Layout.{is_I, is_E, is_V, known, fields_at, field_faults, zero_fault}
+use Rattle.record.specs.Cars.{car_place}
 use Rattle.plan.specs.declared.Counts.{Counts}
 use Rattle.plan.specs.Places.{place_among_lem}
 use Rattle.plan.specs.Totals.{counts_of}
 use Rattle.table.specs.Chain.{rows_in, numbers_in, table_faults}
 use Rattle.cars.specs.Cars.{listed, list_faults}
 use Rattle.cars.specs.Moves.{is_running}
-use Rattle.cars.specs.Refusals.{car_place}
 use Rattle.book.specs.Book.{Book, rows_of_book, started, due_runs, due_notes, entered}
 
 -- a call with its arguments; of the list of places for notes only its length matters

@@ -1,6 +1,7 @@
 //! One end: a watch that is fed records, and the verdict words that it writes for the car, tick by tick.
 use crate::sample::{CAR, TABLE};
 use anyhow::anyhow;
+use line::rest_of;
 use record::{Car, Note, Record};
 use std::alloc::{AllocError, Global};
 use watch::Watch;
@@ -39,13 +40,10 @@ fn take<M: WindowMemory>(
     record: Record,
     words: &mut Vec<u16>,
 ) -> anyhow::Result<()> {
-    let mut rest = record;
-    for _ in 0..=record.ticks {
+    let mut left = Some(record);
+    while let Some(rest) = left {
         let taken = feed(watch, rest, words)?;
-        rest.ticks = rest.ticks.saturating_sub(taken);
-        if rest.ticks == 0 {
-            return Ok(());
-        }
+        left = rest_of(rest, taken);
     }
     Ok(())
 }

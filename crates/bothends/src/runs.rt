@@ -12,27 +12,12 @@ impl<'a> fmt::Display for Runs<'a> {
     fn fmt<W: fmt::Write>(&self, f: &mut fmt::Formatter<W>) -> fmt::Result {
         let count = self.words.len();
         write!(f, "{count} ticks")?;
-        let mut last = None;
-        let mut ticks = 0usize;
-        for word in self.words {
-            if last != Some(*word) {
-                write_run(f, last, ticks)?;
-                last = Some(*word);
-                ticks = 0;
+        for run in self.words.chunk_by(|a, b| a == b) {
+            if let [word, ..] = run {
+                let ticks = run.len();
+                write!(f, ", {word} for {ticks}")?;
             }
-            ticks = ticks.saturating_add(1);
         }
-        write_run(f, last, ticks)
-    }
-}
-
-fn write_run<W: fmt::Write>(
-    f: &mut fmt::Formatter<W>,
-    word: Option<u16>,
-    ticks: usize,
-) -> fmt::Result {
-    match word {
-        Some(word) => write!(f, ", {word} for {ticks}"),
-        None => Ok(()),
+        Ok(())
     }
 }

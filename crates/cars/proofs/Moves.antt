@@ -1,5 +1,5 @@
 -- What a refused record leaves. Assumes nothing.
-use Rattle.std.proofs.Common.{◌≡◌, ℕ, Bool, true, false, cond, List, get_or, set, is_ok, Some, Ok, Err, Result, sym, refl, ap, ◌∙◌, arith}
+use Rattle.std.proofs.Common.{◌≡◌, ℕ, Bool, true, false, cond, List, get_or, set, is_ok, Some, Ok, Err, Result, sym, refl, ap, ◌∙◌}
 use Rattle.std.specs.Result.{result_err}
 use Rattle.std.proofs.lemmas.List.{set-get_or}
 use Rattle.std.proofs.lemmas.Bool.{eqb-true}
@@ -7,19 +7,19 @@ use Rattle.refusal.specs.Faults.{refusal}
 use Rattle.record.specs.Layout.{is_I}
 use Rattle.cars.specs.declared.CarState.{CarState}
 use Rattle.record.specs.declared.Car.{Car}
+use Rattle.record.specs.Cars.{car_place}
 use Rattle.cars.specs.declared.CarTable.{CarTable}
 use Rattle.cars.specs.declared.FeedFault.{FeedFault}
 use Rattle.cars.specs.declared.Slot.{Slot}
 use Rattle.cars.specs.Cars.{no_slot, cars_of, place_of}
 use Rattle.cars.specs.Moves.{Moved, MovedAt, Recorded, record_refusal, moved, is_running}
-use Rattle.cars.specs.Refusals.{car_place}
-use Rattle.cars.proofs.Places.{place_in, car_at, length_cars}
+use Rattle.cars.proofs.Places.{car_found}
 
 abbrev table : List Slot → ℕ → CarTable
 table ss n = record { slots = ss; count = n }
 
 unmoved : (s s' : Slot) (letter : ℕ) (r : Result Unit FeedFault) → Moved s letter s' r → is_ok r ≡ false → s' ≡ s
-unmoved s s' letter (Ok u) m off = let n : ◌≡◌ {A = ℕ} 0 1 = cc in absurd (omega arith)
+unmoved s s' letter (Ok u) m off = cc
 unmoved s s' letter (Err e) m off = m.1
 
 pub unmoved_at : (ss : List Slot) (n i letter : ℕ) (s' : Slot) (r : Result Unit FeedFault) → Moved (get_or ss i no_slot) letter s' r → is_ok r ≡ false → table (set ss i s') n ≡ table ss n
@@ -37,7 +37,7 @@ moved_inputs c s s' letter on e = after (is_running s) (sym first ∙ e)
 
     after : (b : Bool) → cond b (Ok s) (Err (refusal 18 (car_place c))) ≡ Ok s' → s' ≡ s
     after true f = cc
-    after false f = let n : ◌≡◌ {A = ℕ} 0 1 = cc in absurd (omega arith)
+    after false f = cc
 
 still : (s s' : Slot) (letter : ℕ) (r : Result Unit FeedFault) → is_I letter ≡ true → Moved s letter s' r → s' ≡ s
 still s s' letter (Ok u) on m =
@@ -51,6 +51,4 @@ still_at ss n i letter s' r m on = ap (λ s. table (set ss i s) n) (still _ s' l
 -- a record that the listed car refuses
 pub refused_at : (t : CarTable) (c : Car) (letter i : ℕ) (t' : CarTable) (e : FeedFault) → place_of (cars_of t) c ≡ Some i → MovedAt t i letter t' (Err e) → Recorded t c letter t' (Err e)
 refused_at t c letter i t' e found m =
-    let p = place_in (cars_of t) c i found in
-    let is : (get_or t.slots i no_slot).car ≡ c = sym (car_at t i (omega (arith, p.0, length_cars t)) (omega (arith, p.0, length_cars t))) ∙ p.1 in
-    (ap (record_refusal t c letter) found ∙ ap (λ d. result_err (moved d (get_or t.slots i no_slot).state letter)) (sym is) ∙ ap result_err m.there.0, m.refused refl)
+    (ap (record_refusal t c letter) found ∙ ap (λ d. result_err (moved d (get_or t.slots i no_slot).state letter)) (sym (car_found t c i found)) ∙ ap result_err m.there.0, m.refused refl)

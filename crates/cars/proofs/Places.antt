@@ -1,34 +1,35 @@
 -- Where a car stands in a list. Assumes nothing.
-use Rattle.std.proofs.Common.{◌≡◌, ℕ, zero, suc, ◌+◌, ◌-◌, ◌<◌, ◌≤◌, min, Bool, true, false, cond, ◌&&◌, ◌||◌, ltb, List, [], ◌∷◌, length, get_or, take, drop, replicate, is_some, Some, None, Option, sym, refl, ap, ◌∙◌, ap₂, inl, inr, add-one, arith, drop-cons}
-use Rattle.std.proofs.lemmas.List.{drop_all, ext_get_or, get_or-take, length-take-le}
+use Rattle.std.proofs.Common.{◌≡◌, ℕ, zero, suc, ◌+◌, ◌<◌, ◌≤◌, min, Bool, true, false, cond, not, ◌||◌, ltb, List, [], ◌∷◌, length, map, position, get_or, take, replicate, is_some, Some, None, sym, refl, ap, ◌∙◌, ap₂, inl, inr, arith}
+use lib.ListN.{length-map}
+use Rattle.std.specs.List.{position_or_len, list_any}
+use Rattle.std.proofs.lemmas.Grind.{common_steps}
+use Rattle.std.proofs.lemmas.List.Quantifiers.{position-Some}
+use Rattle.cars.specs.declared.Slot.{Slot}
+use Rattle.std.proofs.lemmas.List.{ext_get_or, get_or-take, get_or-map, length-take-le}
 use Rattle.std.proofs.lemmas.List.FromFn.{length-map-range_with_len, get_or-map-range_with_len}
-use Rattle.std.proofs.lemmas.Bool.{cond-true, cond-false, and_parts, ltb-true, lt-ltb, cases_lt, cases_eq, cases_Bool, eqb-true}
+use Rattle.std.proofs.lemmas.Bool.{cases_eq}
 use Rattle.refusal.specs.Faults.{refusal, fault, first_fault}
 use Rattle.refusal.proofs.Held.{none_counted, first_counted}
 use Rattle.record.specs.declared.Car.{Car}
+use Rattle.record.specs.Cars.{same_car, no_car}
+use Rattle.record.proofs.Cars.{same_is}
 use Rattle.cars.specs.declared.CarTable.{CarTable}
-use Rattle.cars.specs.Cars.{same_car, no_car, no_slot, place_from, place_of, listed, cars_of, has_at_lem, wrong_car, position_faults, vacant_slot, Filled, Added}
-
-split : (cs : List Car) (i : ℕ) (c : Car) → i < length cs → place_from i (drop i cs) c ≡ cond (same_car (get_or cs i no_car) c) (Some i) (place_from (i + 1) (drop (i + 1) cs) c)
-split cs i c lt = ap (λ ds. place_from i ds c) (drop-cons cs i no_car lt) ∙ ap (λ n. cond (same_car (get_or cs i no_car) c) (Some i) (place_from (i + 1) (drop n cs) c)) (sym (add-one i))
-
-pub place_here : (cs : List Car) (i : ℕ) (c : Car) → i < length cs → same_car (get_or cs i no_car) c ≡ true → place_from i (drop i cs) c ≡ Some i
-place_here cs i c lt e = split cs i c lt ∙ cond-true _ _ _ e
-
-pub place_on : (cs : List Car) (i : ℕ) (c : Car) → i < length cs → same_car (get_or cs i no_car) c ≡ false → place_from i (drop i cs) c ≡ place_from (i + 1) (drop (i + 1) cs) c
-place_on cs i c lt e = split cs i c lt ∙ cond-false _ _ _ e
-
-pub place_past : (cs : List Car) (i : ℕ) (c : Car) → length cs ≤ i → place_from i (drop i cs) c ≡ None
-place_past cs i c le = ap (λ ds. place_from i ds c) (drop_all i cs le)
+use Rattle.cars.specs.Cars.{no_slot, place_of, listed, cars_of, wrong_car, position_faults, vacant_slot, Filled, Added}
 
 -- a list has a place for the cars that stand in it, and for no others
-pub place_listed : (i : ℕ) (cs : List Car) (c : Car) → is_some (place_from i cs c) ≡ listed cs c
-place_listed i [] c = refl
-place_listed i (d ∷ ds) c = step (same_car d c) (place_listed (i + 1) ds c)
+pub place_listed : (cs : List Car) (c : Car) → is_some (place_of cs c) ≡ listed cs c
+place_listed cs c = some_if (ltb (position_or_len (λ d. same_car d c) cs) (length cs)) _ ∙ inside cs
   where
-    step : (b : Bool) → is_some (place_from (i + 1) ds c) ≡ listed ds c → is_some (cond b (Some i) (place_from (i + 1) ds c)) ≡ (b || listed ds c)
-    step true e = refl
-    step false e = e
+    some_if : (b : Bool) (n : ℕ) → is_some (cond b (Some n) None) ≡ b
+    some_if true n = refl
+    some_if false n = refl
+
+    inside : (ds : List Car) → ltb (position_or_len (λ d. same_car d c) ds) (length ds) ≡ list_any (λ d. same_car d c) ds
+    inside [] = refl
+    inside (d ∷ ds) = elim (same_car d c) as (λ b. ltb (cond (not b) (1 + position_or_len (λ d. same_car d c) ds) 0) (length (d ∷ ds)) ≡ (b || listed ds c)) [
+      | true ↦ grind (arith, common_steps)
+      | false ↦ grind (arith, common_steps, inside ds)
+    ]
 
 -- The cars of a table.
 module _ (t : CarTable) where
@@ -38,21 +39,28 @@ module _ (t : CarTable) where
   pub car_at : (i : ℕ) → i < 32 → i < t.count → get_or (cars_of t) i no_car ≡ (get_or t.slots i no_slot).car
   car_at i a b = get_or-map-range_with_len (λ i. (get_or t.slots i no_slot).car) 0 (min t.count 32) i i no_car (omega arith) (omega arith)
 
-  pub found_at : (i : ℕ) (c : Car) → has_at_lem t i c ≡ true → place_from i (drop i (cars_of t)) c ≡ Some i
-  found_at i c e =
-      let p = and_parts (ltb i 32 && ltb i t.count) (same_car (get_or t.slots i no_slot).car c) e in
-      let q = and_parts (ltb i 32) (ltb i t.count) p.0 in
-      let a = ltb-true i 32 q.0 in
-      let b = ltb-true i t.count q.1 in
-      place_here (cars_of t) i c (omega (arith, length_cars)) (ap (λ d. same_car d c) (car_at i a b) ∙ p.1)
+  -- the places in use
+  abbrev pub used : List Slot
+  used = take (min t.count 32) t.slots
 
-  pub passed_at : (i : ℕ) (c : Car) → i < 32 → has_at_lem t i c ≡ false → place_from i (drop i (cars_of t)) c ≡ place_from (i + 1) (drop (i + 1) (cars_of t)) c
-  passed_at i c a e =
-      elim (cases_lt i t.count) [
-        | inl b ↦ place_on (cars_of t) i c (omega (arith, length_cars))
-            (ap (λ d. same_car d c) (car_at i a b) ∙ sym (ap (λ x. x && same_car (get_or t.slots i no_slot).car c) (ap₂ ◌&&◌ (lt-ltb i 32 a) (lt-ltb i t.count b))) ∙ e)
-        | inr b ↦ place_past (cars_of t) i c (omega (arith, length_cars)) ∙ sym (place_past (cars_of t) (i + 1) c (omega (arith, length_cars)))
-      ]
+  -- the first of them that has the car is its place in the list
+  pub place_used : length t.slots ≡ 32 → (c : Car) → position (λ s. same_car s.car c) used ≡ place_of (cars_of t) c
+  place_used long c = rw cars_are (along used)
+    where
+      many : length used ≡ min t.count 32
+      many = length-take-le (min t.count 32) t.slots (omega arith)
+
+      cars_are : cars_of t ≡ map (λ s. s.car) used
+      cars_are = ext_get_or no_car _ _ (length_cars ∙ sym (length-map used (λ s. s.car) ∙ many)) (λ i lt.
+          car_at i (omega (arith, length_cars)) (omega (arith, length_cars))
+          ∙ sym (get_or-map (λ (s : Slot). s.car) used i no_slot no_car (omega (arith, length_cars, many)) ∙ ap (λ s. s.car) (get_or-take (min t.count 32) t.slots i no_slot (omega (arith, length_cars)))))
+
+      first : (ss : List Slot) → position_or_len (λ s. same_car s.car c) ss ≡ position_or_len (λ d. same_car d c) (map (λ s. s.car) ss)
+      first [] = refl
+      first (s ∷ ss) = ap (λ n. cond (not (same_car s.car c)) (1 + n) 0) (first ss)
+
+      along : (ss : List Slot) → position (λ s. same_car s.car c) ss ≡ position (λ d. same_car d c) (map (λ s. s.car) ss)
+      along ss = ap₂ (λ n l. cond (ltb n l) (Some n) None) (first ss) (sym (length-map ss (λ s. s.car)))
 
 pub no_slots : (n k : ℕ) → get_or (replicate n no_slot) k no_slot ≡ no_slot
 no_slots zero k = refl
@@ -97,25 +105,11 @@ pub first_position : (cs : List Car) (n : ℕ) → n < length cs → ((j : ℕ) 
 first_position cs n lt off on = first_counted (λ i. fault (wrong_car cs i) 12 (i + 1)) 0 (length cs) n (omega arith) (omega arith) (λ j low high. off j high) on
 
 -- the place of a car is a place of the list, and has that car
-pub place_some : (j : ℕ) (cs : List Car) (c : Car) (i : ℕ) → place_from j cs c ≡ Some i → (j ≤ i) × (i < j + length cs) × (same_car (get_or cs (i - j) no_car) c ≡ true)
-place_some j [] c i e = let n : ◌≡◌ {A = ℕ} 0 1 = cc in absurd (omega arith)
-place_some j (d ∷ ds) c i e =
-    elim (cases_Bool (same_car d c)) [
-      | inl on ↦
-          let is : j ≡ i = let s : ◌≡◌ {A = Option ℕ} (Some j) (Some i) = sym (cond-true (same_car d c) (Some j) (place_from (j + 1) ds c) on) ∙ e in cc in
-          let none : i - j ≡ 0 = omega arith in
-          (omega arith, omega arith, ap (λ k. same_car (get_or (d ∷ ds) k no_car) c) none ∙ on)
-      | inr off ↦
-          let later = place_some (j + 1) ds c i (sym (cond-false (same_car d c) (Some j) (place_from (j + 1) ds c) off) ∙ e) in
-          let more : i - j ≡ suc (i - (j + 1)) = omega (arith, later.0) in
-          (omega (arith, later.0), omega (arith, later.1), ap (λ k. same_car (get_or (d ∷ ds) k no_car) c) more ∙ later.2)
-    ]
-
 pub place_in : (cs : List Car) (c : Car) (i : ℕ) → place_of cs c ≡ Some i → (i < length cs) × (get_or cs i no_car ≡ c)
-place_in cs c i e =
-    let p = place_some 0 cs c i e in
-    let same : i - 0 ≡ i = omega arith in
-    (omega (arith, p.1), same_is (get_or cs i no_car) c (ap (λ k. same_car (get_or cs k no_car) c) (sym same) ∙ p.2))
-  where
-    same_is : (d c : Car) → same_car d c ≡ true → d ≡ c
-    same_is d c e = let n : d.number ≡ c.number = eqb-true d.number c.number e in λ i. record { number = n i }
+place_in cs c i e = let p = position-Some (λ d. same_car d c) cs i no_car e in (p.0, same_is (get_or cs i no_car) c p.1)
+
+-- and so has the slot at that place
+pub car_found : (t : CarTable) (c : Car) (i : ℕ) → place_of (cars_of t) c ≡ Some i → (get_or t.slots i no_slot).car ≡ c
+car_found t c i found =
+    let p = place_in (cars_of t) c i found in
+    sym (car_at t i (omega (arith, p.0, length_cars t)) (omega (arith, p.0, length_cars t))) ∙ p.1

@@ -1,31 +1,20 @@
 -- Cars, and lists of different cars. Assumes nothing.
-use Rattle.std.specs.Prelude.{◌≡◌, ℕ, ◌+◌, ◌<◌, ◌≤◌, min, Bool, false, cond, not, ◌&&◌, ◌||◌, List, [], ◌∷◌, map, length, get_or, take, Some, None, Option, ◌==◌, ◌≢◌, nat_le, nat_lt, slice_index_or}
-use Rattle.std.specs.List.{range_with_len}
+use Rattle.std.specs.Prelude.{◌≡◌, ℕ, ◌+◌, ◌<◌, ◌≤◌, min, Bool, not, ◌&&◌, ◌||◌, List, ◌∷◌, map, length, position, get_or, take, Option, ◌≢◌, nat_le, slice_index_or}
+use Rattle.std.specs.List.{range_with_len, list_any}
 use Rattle.refusal.specs.Faults.{Fault, fault}
 use Rattle.record.specs.declared.Car.{Car}
+use Rattle.record.specs.Cars.{same_car, no_car}
 use Rattle.cars.specs.declared.CarState.{CarState}
 use Rattle.cars.specs.declared.CarState.TheVariants.{Vacant}
 use Rattle.cars.specs.declared.Slot.{Slot}
 use Rattle.cars.specs.declared.CarTable.{CarTable}
 
-abbrev pub same_car : Car → Car → Bool
-same_car c d = c.number == d.number
-
--- no car has this identity
-abbrev pub no_car : Car
-no_car = record { number = 0 }
-
--- the first place of a car in a list, counted from i
-abbrev pub place_from : ℕ → List Car → Car → Option ℕ
-place_from i [] c = None
-place_from i (d ∷ ds) c = cond (same_car d c) (Some i) (place_from (i + 1) ds c)
-
+-- the first place of a car in a list
 abbrev pub place_of : List Car → Car → Option ℕ
-place_of cs c = place_from 0 cs c
+place_of cs c = position (λ d. same_car d c) cs
 
 abbrev pub listed : List Car → Car → Bool
-listed [] c = false
-listed (d ∷ ds) c = same_car d c || listed ds c
+listed cs c = list_any (λ d. same_car d c) cs
 
 -- The car at place i of a list is zero or stands before.
 abbrev pub wrong_car : List Car → ℕ → Bool
@@ -49,10 +38,6 @@ cars_of t = map (λ i. (get_or t.slots i no_slot).car) (range_with_len 0 (min t.
 
 abbrev pub state_at : CarTable → ℕ → CarState
 state_at t i = (get_or t.slots i no_slot).state
-
--- place i is in use, and has the car c
-abbrev pub has_at_lem : CarTable → ℕ → Car → Bool
-has_at_lem t i c = (nat_lt i 32 && nat_lt i t.count) && same_car (get_or t.slots i no_slot).car c
 
 -- a vacant car of a table
 abbrev pub vacant_slot : Car → Slot

@@ -5,13 +5,14 @@ use Rattle.refusal.specs.declared.Refusal.{Refusal}
 use Rattle.refusal.specs.Faults.{refusal}
 use Rattle.record.specs.declared.Car.{Car}
 use Rattle.record.specs.Layout.{is_R, is_I, is_E}
+use Rattle.record.specs.Cars.{car_place}
 use Rattle.cars.specs.declared.CarState.{CarState}
 use Rattle.cars.specs.declared.CarState.TheVariants.{Vacant, Running, Ended}
 use Rattle.cars.specs.declared.Slot.{Slot}
 use Rattle.cars.specs.declared.CarTable.{CarTable}
 use Rattle.cars.specs.declared.FeedFault.{FeedFault}
 use Rattle.cars.specs.Cars.{no_slot, place_of, cars_of, state_at}
-use Rattle.cars.specs.Refusals.{car_place, of_feed}
+use Rattle.cars.specs.Refusals.{of_feed}
 
 abbrev pub is_running : CarState → Bool
 is_running Vacant = false

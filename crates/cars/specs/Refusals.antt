@@ -1,8 +1,9 @@
 -- The refusals of the car layer, and of a record for a car. Assumes nothing.
-use Rattle.std.specs.Prelude.{◌≡◌, ℕ, List, length, Some, None, Ok, Err, Result}
+use Rattle.std.specs.Prelude.{◌≡◌, List, length, Some, None, Ok, Err, Result}
 use Rattle.refusal.specs.declared.Refusal.{Refusal}
 use Rattle.refusal.specs.Faults.{refusal, first_fault}
 use Rattle.record.specs.declared.Car.{Car}
+use Rattle.record.specs.Cars.{car_place}
 use Rattle.record.specs.Replies.{refusal_of}
 use Rattle.cars.specs.declared.CarTable.{CarTable}
 use Rattle.cars.specs.Cars.{list_faults, position_faults, Filled}
@@ -12,10 +13,6 @@ use Rattle.cars.specs.declared.FeedFault.{FeedFault}
 use Rattle.cars.specs.declared.FeedFault.TheVariants.{Record, Car as OfCar}
 use Rattle.cars.specs.declared.ListFault.{ListFault}
 use Rattle.cars.specs.declared.ListFault.TheVariants.{Size, Position}
-
--- a car as a place
-abbrev pub car_place : Car → ℕ
-car_place c = c.number
 
 abbrev pub of_car : CarFault → Refusal
 of_car (NotListed c) = refusal 17 (car_place c)

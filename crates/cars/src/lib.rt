@@ -2,8 +2,9 @@
 
 #![tactic(auto)]
 
-ghost use Rattle.std.specs.Prelude.{◌≡◌, ℕ, ◌<◌, ◌≤◌, Bool, true, false, ◌||◌, List, [], length, slice_index_or};
-ghost use Rattle.cars.specs.Cars.{same_car, has_at_lem, listed, no_car, place_of, cars_of, no_slot, Added, Filled};
+ghost use Rattle.std.specs.Prelude.{◌≡◌, ℕ, ◌<◌, ◌≤◌, min, Bool, true, false, ◌||◌, List, [], length, take, slice_index_or};
+ghost use Rattle.record.specs.Cars.{same_car, no_car};
+ghost use Rattle.cars.specs.Cars.{listed, place_of, cars_of, no_slot, Added, Filled};
 ghost use Rattle.cars.specs.Moves.{Moved, MovedAt, Recorded};
 ghost use Rattle.cars.specs.Refusals.{of_car, of_feed, of_list, Listed, Placed};
 ghost use Rattle.cars.specs.declared.FeedFault.TheVariants.{Record as OfRecord, Car as OfCar};
@@ -109,8 +110,8 @@ impl Slot {
             (_, 'R') => self.state = CarState::Running,
             (CarState::Running, 'I') => {}
             (CarState::Running, 'E') => self.state = CarState::Ended,
-            (_, 'I' | 'E') => return Err(FeedFault::Car(CarFault::NotRunning(self.car))),
-            _ => return Err(FeedFault::Record(RecordFault::UnknownLetter)),
+            (_, 'I' | 'E') => return Err(CarFault::NotRunning(self.car).into()),
+            _ => return Err(RecordFault::UnknownLetter.into()),
         }
         Ok(())
     }
@@ -123,19 +124,12 @@ pub struct CarTable {
     pub count: usize,
 }
 
-// Whether two cars are one.
-fn same(a: Car, b: Car) -> bool
-    ensures { result ≡ same_car a b }
-{
-    a.number == b.number
-}
-
 // Places without a car.
 fn unlisted() -> [Slot; 32]
     ensures { (k : ℕ) → slice_index_or result k no_slot ≡ no_slot }
 {
     let slot = Slot {
-        car: Car { number: 0 },
+        car: Car::NONE,
         state: CarState::Vacant,
     };
     [slot; 32]
@@ -152,30 +146,25 @@ impl CarTable {
         }
     }
 
-    // Whether the car at this place, if there is one, is this car.
-    fn has_at(&self, i: usize, car: Car) -> bool
-        ensures { result ≡ has_at_lem self.now i car }
+    // The places in use.
+    fn used(&self) -> &[Slot]
+        ensures { result.now ≡ take (min self.now.count 32) self.now.slots }
     {
-        i < 32 && i < self.count && same(self.slots[i].car, car)
+        &self.slots[..self.count.min(32)]
     }
 
     // The place of a car in the list.
     pub fn find(&self, car: Car) -> Option<usize>
         ensures { result ≡ place_of (cars_of self.now) car }
     {
-        for i in 0..32 {
-            if self.has_at(i, car) {
-                return Some(i);
-            }
-        }
-        None
+        self.used().iter().position(|slot| slot.car == car)
     }
 
     // Whether a car cannot be added: it is zero, or in the table.
     fn refuses(&self, car: Car) -> bool
         ensures { result ≡ (same_car car no_car || listed (cars_of self.now) car) }
     {
-        same(car, Car { number: 0 }) || self.find(car).is_some()
+        car == Car::NONE || self.find(car).is_some()
     }
 
     // A vacant car is added.
@@ -197,12 +186,11 @@ impl CarTable {
         ensures { Placed cars.now result }
     {
         let mut table = CarTable::none();
-        for i in 0..cars.len() {
-            let car = cars[i];
-            if table.refuses(car) {
+        for (i, car) in cars.iter().enumerate() {
+            if table.refuses(*car) {
                 return Err(ListFault::Position(i as u8 + 1));
             }
-            table.add(car);
+            table.add(*car);
         }
         Ok(table)
     }
@@ -229,13 +217,9 @@ impl CarTable {
     fn moved(&mut self, car: Car, letter: char) -> Result<usize, FeedFault>
         ensures { Recorded self.old car letter self.new result }
     {
-        match self.find(car) {
-            Some(at) => match self.record_at(at, letter) {
-                Ok(()) => Ok(at),
-                Err(fault) => Err(fault),
-            },
-            None => Err(FeedFault::Car(CarFault::NotListed(car))),
-        }
+        let at = self.find(car).ok_or(CarFault::NotListed(car))?;
+        self.record_at(at, letter)?;
+        Ok(at)
     }
 
     // A record with this letter comes for a car: its place, once its state has changed. A car that is not listed, or

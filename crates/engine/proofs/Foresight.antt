@@ -1,14 +1,13 @@
 -- The readings ahead, one row after another. Assumes nothing.
-use Rattle.std.proofs.Common.{◌≡◌, ℕ, zero, suc, ◌+◌, ◌<◌, ◌≤◌, Bool, true, false, not, ◌&&◌, ◌||◌, List, length, set, Option, sym, refl, ap, ◌∙◌, subst, ap₂, inl, inr, add-one, arith, below_more}
-use mathlib.Core.Bool.{false≢true}
-use Rattle.std.proofs.lemmas.List.{get_or-set_same, get_or-set_other, get_or_past}
-use Rattle.std.proofs.lemmas.Bool.{cases_lt}
+use Rattle.std.proofs.Common.{◌≡◌, ℕ, ◌+◌, ◌<◌, ◌≤◌, Bool, false, not, ◌&&◌, ◌||◌, List, length, set, Option, sym, refl, ap, ◌∙◌, subst, ap₂, add-one, arith, below_more}
+use Rattle.std.proofs.lemmas.List.{get_or-set_same, get_or-set_other}
 use Rattle.mitl.specs.declared.Row.{Row}
 use Rattle.mitl.specs.declared.Row.TheVariants.{Input, Not, And, Or, Once, Always, Since, Rule}
 use Rattle.mitl.specs.Formulas.{bit}
 use Rattle.mitl.specs.Memory.{Meaning, ahead, Lasts}
 use Rattle.mitl.specs.Rows.{Earlier, row_at, timed_before, is_rule}
 use Rattle.mitl.specs.Windows.{some_below}
+use Rattle.plan.proofs.Below.{some_same}
 use Rattle.engine.specs.Steps.{meant, reading, seen, Before, AtEnd, Turns, shorter, Foreseen}
 use Rattle.engine.proofs.Lengths.{lasts_before, lasts_some, before_shorter, shorter_before, end_lasts, end_shorter, end_map}
 
@@ -22,10 +21,6 @@ seen_same k u v w m d same (Once l a b) e = ap (λ x. ahead m.a x m.mark d) (sam
 seen_same k u v w m d same (Always l a b) e = ap (λ x. not (ahead m.a (not x) m.mark d)) (same l e)
 seen_same k u v w m d same (Since l r a b) e = ap₂ (λ x y. x && ahead m.a y m.mark d) (same l e.0) (same r e.1)
 seen_same k u v w m d same (Rule i l) e = same l e
-
-pub some_same : (p q : ℕ → Bool) (n : ℕ) → ((k : ℕ) → k < n → p k ≡ q k) → some_below p n ≡ some_below q n
-some_same p q zero same = refl
-some_same p q (suc n) same = ap₂ ◌||◌ (same n (omega arith)) (some_same p q n (λ k lt. same k (omega arith)))
 
 module _ {X : Type 0} (meaning : X → Meaning) (rows : List Row) (w : ℕ) (ms : List X) (k : ℕ) (vs : List Bool) (verdict : ℕ) (lasts : Option ℕ) (v : Bool) (n : Option ℕ) (verdict' : ℕ) (lasts' : Option ℕ) where
   -- the row at place k has the reading v for the length n
@@ -60,40 +55,3 @@ module _ {X : Type 0} (meaning : X → Meaning) (rows : List Row) (w : ℕ) (ms 
       same_seen : (j : ℕ) → j < k + 1 → (d : ℕ) → j ≤ k
           → seen (row_at rows j) (meant meaning ms (timed_before rows j)) (reading (set vs k v)) w d ≡ seen (row_at rows j) (meant meaning ms (timed_before rows j)) (reading vs) w d
       same_seen j lt d le = seen_same j _ _ w _ d (λ i low. kept i (omega arith)) (row_at rows j) (chained j lt)
-
-turned_round : (b : Bool) → b ≡ not b → ⊥
-turned_round true e = false≢true (sym e)
-turned_round false e = false≢true e
-
-some_all : (p : ℕ → Bool) (n m : ℕ) → n ≤ m → ((k : ℕ) → n ≤ k → p k ≡ false) → some_below p m ≡ some_below p n
-some_all p n zero le off = let e : 0 ≡ n = omega arith in ap (some_below p) e
-some_all p n (suc m) le off =
-    elim (cases_lt m n) [
-      | inl less ↦ (let e : suc m ≡ n = omega arith in ap (some_below p) e)
-      | inr more ↦ ap (λ b. b || some_below p m) (off m more) ∙ some_all p n m more off
-    ]
-
-module _ {X : Type 0} (meaning : X → Meaning) (rows : List Row) (w : ℕ) (ms : List X) (k : ℕ) (vs : List Bool) (verdict : ℕ) (lasts : Option ℕ) where
-  -- past the last row there is no rule
-  pub foreseen_all : length rows ≤ k → Foreseen meaning rows w ms k vs verdict lasts → Foreseen meaning rows w ms (length rows) vs verdict lasts
-  foreseen_all le f = record {
-    keeps = λ j lt. f.keeps j (omega arith);
-    some = f.some;
-    small = f.small;
-    change = end_map (Turns meaning rows w ms k vs) _ lasts
-        (λ d c.
-        elim (cases_lt c.0 (length rows)) [
-          | inl less ↦ (c.0, less, c.2)
-          | inr past ↦ absurd (turned_round (reading vs c.0) (sym (f.keeps c.0 c.1 0 f.some) ∙ steady c.0 past 0 d ∙ c.2))
-        ])
-        f.change;
-    bits = λ i.
-        f.bits i
-        ∙ some_all (λ j. is_rule i (row_at rows j) && reading vs j) (length rows) k le (λ j low. ap (λ r. is_rule i r && reading vs j) (get_or_past rows j (Input 0) low));
-  }
-    where
-      -- a place past the last row has the reading of an input
-      steady : (j : ℕ) → length rows ≤ j → (d e : ℕ) → seen (row_at rows j) (meant meaning ms (timed_before rows j)) (reading vs) w d ≡ seen (row_at rows j) (meant meaning ms (timed_before rows j)) (reading vs) w e
-      steady j past d e =
-          ap (λ r. seen r (meant meaning ms (timed_before rows j)) (reading vs) w d) (get_or_past rows j (Input 0) past)
-          ∙ sym (ap (λ r. seen r (meant meaning ms (timed_before rows j)) (reading vs) w e) (get_or_past rows j (Input 0) past))

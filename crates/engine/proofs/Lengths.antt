@@ -1,19 +1,14 @@
 -- For how long readings last. Assumes nothing.
-use Rattle.std.proofs.Common.{◌≡◌, ℕ, ◌<◌, ◌≤◌, Bool, true, not, ◌&&◌, Some, None, Option, sym, ap, subst, inl, inr, arith}
+use Rattle.std.proofs.Common.{◌≡◌, ℕ, ◌<◌, ◌≤◌, Bool, not, Some, None, Option, sym, ap, ◌∙◌, subst, inl, inr, arith}
 use native.Mathlib.Nat.{min-eq_left, min-eq_right}
 use Rattle.std.proofs.lemmas.Bool.{cases_lt}
 use Rattle.mitl.specs.Memory.{Lasts}
 use Rattle.engine.specs.Steps.{Before, AtEnd, shorter, capped}
 
-pub lasts_turned : (f : ℕ → Bool) (r : Bool) (o : Option ℕ) → Lasts f r o → Lasts (λ d. not (f d)) (not r) o
-lasts_turned f r None l = λ d. ap not (l d)
-lasts_turned f r (Some n) l = (l.0, λ d lt. ap not (l.1 d lt), ap not l.2)
-
-pub lasts_as : (f : ℕ → Bool) (r s : Bool) (o p : Option ℕ) → s ≡ r → p ≡ o → Lasts f r o → Lasts f s p
-lasts_as f r s o p e e' l = subst (λ q. Lasts f s q) (sym e') (subst (λ b. Lasts f b o) (sym e) l)
-
-pub lasts_since : (f : ℕ → Bool) (left r : Bool) (o : Option ℕ) → left ≡ true → Lasts f r o → Lasts (λ d. left && f d) r o
-lasts_since f left r o e l = subst (λ b. Lasts (λ d. b && f d) r o) (sym e) l
+-- a verdict turned round lasts as long
+pub lasts_turned : (f : ℕ → Bool) (r s : Bool) (o p : Option ℕ) → s ≡ not r → p ≡ o → Lasts f r o → Lasts (λ d. not (f d)) s p
+lasts_turned f r s None p e e' l = subst (λ q. Lasts (λ d. not (f d)) s q) (sym e') (λ d. ap not (l d) ∙ sym e)
+lasts_turned f r s (Some n) p e e' l = subst (λ q. Lasts (λ d. not (f d)) s q) (sym e') (l.0, λ d lt. ap not (l.1 d lt) ∙ sym e, ap not (l.2 ∙ sym e))
 
 pub lasts_before : (f : ℕ → Bool) (r : Bool) (o : Option ℕ) → Lasts f r o → (d : ℕ) → Before d o → f d ≡ r
 lasts_before f r None l d b = l d

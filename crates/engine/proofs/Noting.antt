@@ -3,13 +3,13 @@ use Rattle.std.proofs.Common.{◌≡◌, ℕ, zero, suc, ◌+◌, ◌-◌, ◌<�
 use mathlib.Core.Bool.{false≢true}
 use lib.ListN.{length-map}
 use Rattle.std.proofs.lemmas.List.{append-nil, take_more_set, map_push, length-take-le, drop-drop, drop-set-lt}
-use Rattle.std.proofs.lemmas.Bool.{and_parts, and_from, or_cases, or_parts, lt-ltb, ltb-true, ltb-false, eqb-true, eqb-false, cases_lt}
+use Rattle.std.proofs.lemmas.Bool.{and_parts, and_from, or_parts, lt-ltb, ltb-true, ltb-false, eqb-false, cases_lt}
 use Rattle.record.specs.declared.Car.{Car}
 use Rattle.record.specs.declared.Note.{Note}
 use Rattle.mitl.specs.declared.Row.{Row}
 use Rattle.mitl.specs.Memory.{Meaning}
 use Rattle.mitl.specs.Rows.{timed_rows}
-use Rattle.mitl.specs.Runs.{Run, expanded, Longest, runs, ticks}
+use Rattle.mitl.specs.Runs.{Run, expanded, Longest, ticks}
 use Rattle.mitl.proofs.Runs.{EndsOff, longest_push, expanded_push, length_expanded, written_all, written_full}
 use Rattle.engine.specs.Means.{Means}
 use Rattle.engine.specs.Due.{coming, due, covered}
@@ -108,31 +108,6 @@ module _ {X : Type 0} (meaning : X → Meaning) (rows : List Row) (c : Car) (w a
 
       full : done ≡ covered rows h all w (length ns)
       full = sym (coming_length rows h w done) ∙ ap length a.cut ∙ length_expanded a.written ∙ ap ticks (sym is)
-
--- where nothing can be written nothing is due
-module _ {X : Type 0} (meaning : X → Meaning) (rows : List Row) (c : Car) (w : ℕ) (ms : List X) (h : List ℕ) (means : Means meaning rows ms h) where
-  nothing : (n : ℕ) (ns : List Note) → due rows h n w (length ns) ≡ [] → Judged meaning rows h c w n ms ns ms ns (record { notes = 0; ticks = 0 })
-  nothing n ns none = record {
-    written = sym (ap (λ rs. map (note c) rs ++ drop (length rs) ns) none);
-    as_many = sym (ap length none);
-    covers = sym (ap ticks none);
-    means = subst (Means meaning rows ms) (sym (append-nil h) ∙ ap (λ rs. h ++ replicate (ticks rs) w) (sym none)) means;
-  }
-
-  pub judged_idle : (n : ℕ) (ns : List Note) → true ≡ idle rows n ms ns → Judged meaning rows h c w n ms ns ms ns (record { notes = 0; ticks = 0 })
-  judged_idle n ns e =
-      elim (or_cases (eqb n 0) (eqb (length ns) 0 || ltb (length ms) (timed_rows rows)) (sym e)) [
-        | inl none ↦ nothing n ns (ap (λ k. due rows h k w (length ns)) (eqb-true n 0 none) ∙ take_nil (length ns))
-        | inr more ↦
-            elim (or_cases (eqb (length ns) 0) (ltb (length ms) (timed_rows rows)) more) [
-              | inl none ↦ nothing n ns (ap (λ k. due rows h n w k) (eqb-true (length ns) 0 none))
-              | inr short ↦ absurd (let lt = ltb-true (length ms) (timed_rows rows) short in omega (arith, means.enough))
-            ]
-      ]
-    where
-      take_nil : (k : ℕ) → take k (runs []) ≡ []
-      take_nil zero = refl
-      take_nil (suc k) = refl
 
 -- not idle: there is a tick, a place, and a memory for each timed row
 pub idle_not : {X : Type 0} (rows : List Row) (n : ℕ) (ms : List X) (ns : List Note) → idle rows n ms ns ≡ false → (0 < n) × (0 < length ns) × (timed_rows rows ≤ length ms)

@@ -1,53 +1,26 @@
 -- What a plan's invariant says of its rows. Assumes nothing.
-use Rattle.std.proofs.Common.{◌≡◌, ℕ, zero, suc, ◌+◌, ◌<◌, ◌≤◌, true, false, cond, not, ◌&&◌, ltb, leb, List, length, take, sym, ap, ◌∙◌, subst, ap₂, inl, inr, zero-add, add-one, arith}
+use Rattle.std.proofs.Common.{◌≡◌, ℕ, zero, suc, ◌+◌, ◌<◌, ◌≤◌, true, false, cond, List, length, take, sym, ap, ◌∙◌, subst, ap₂, inl, inr, zero-add, add-one, arith}
 use Rattle.std.proofs.lemmas.List.{get_or-take, get_or_past, length-take}
 use Rattle.std.proofs.lemmas.Bool.{and_parts, ltb-true, cases_lt}
 use Rattle.mitl.specs.declared.Row.{Row}
 use Rattle.mitl.specs.declared.Row.TheVariants.{Input, Not, And, Or, Once, Always, Since, Rule}
 use Rattle.mitl.specs.Rows.{Earlier, Chained, row_at, is_timed, timed_before, timed_rows}
 use Rattle.mitl.specs.Blocks.{Proper}
-use Rattle.mitl.specs.Windows.{sound_window}
-use Rattle.plan.specs.Sound.{is_a_rule, operand_ok, row_ok, EachOk}
+use Rattle.plan.specs.declared.plan.Plan.{Plan}
+use Rattle.plan.specs.Rows.{rows_of}
+use Rattle.plan.specs.Sound.{row_ok, EachOk}
+use Rattle.plan.proofs.Earlier.{row_earlier, row_proper}
 use Rattle.engine.specs.Steps.{Readable}
 
-operand : (rows : List Row) (k l : ℕ) → operand_ok rows k l ≡ true → l < k
-operand rows k l ok = ltb-true l k (and_parts (ltb l k) (not (is_a_rule (row_at rows l))) ok).0
-
-window_order : (a b : ℕ) → sound_window a b ≡ true → a ≤ b
-window_order a b ok = omega (arith, ltb-true a b (and_parts (ltb a b) (leb b 864000) ok).0)
-
-module _ (rows : List Row) (k : ℕ) where
-  pub ok_earlier : (r : Row) → row_ok rows k r ≡ true → Earlier k r
-  ok_earlier (Input i) ok = tt
-  ok_earlier (Not l) ok = operand rows k l ok
-  ok_earlier (And l r) ok = let e = and_parts (operand_ok rows k l) (operand_ok rows k r) ok in (operand rows k l e.0, operand rows k r e.1)
-  ok_earlier (Or l r) ok = let e = and_parts (operand_ok rows k l) (operand_ok rows k r) ok in (operand rows k l e.0, operand rows k r e.1)
-  ok_earlier (Once l a b) ok = operand rows k l (and_parts (operand_ok rows k l) (sound_window a b) ok).0
-  ok_earlier (Always l a b) ok = operand rows k l (and_parts (operand_ok rows k l) (sound_window a b) ok).0
-  ok_earlier (Since l r a b) ok =
-      let e = and_parts (operand_ok rows k l) (operand_ok rows k r) (and_parts (operand_ok rows k l && operand_ok rows k r) (sound_window a b) ok).0 in
-      (operand rows k l e.0, operand rows k r e.1)
-  ok_earlier (Rule i l) ok = operand rows k l (and_parts (ltb i 16) (operand_ok rows k l) ok).1
-
-  pub ok_proper : (r : Row) → row_ok rows k r ≡ true → Proper r
-  ok_proper (Input i) ok = tt
-  ok_proper (Not l) ok = tt
-  ok_proper (And l r) ok = tt
-  ok_proper (Or l r) ok = tt
-  ok_proper (Once l a b) ok = window_order a b (and_parts (operand_ok rows k l) (sound_window a b) ok).1
-  ok_proper (Always l a b) ok = window_order a b (and_parts (operand_ok rows k l) (sound_window a b) ok).1
-  ok_proper (Since l r a b) ok = window_order a b (and_parts (operand_ok rows k l && operand_ok rows k r) (sound_window a b) ok).1
-  ok_proper (Rule i l) ok = tt
-
-  pub ok_readable : (r : Row) → k ≤ 64 → row_ok rows k r ≡ true → Readable r
-  ok_readable (Input i) le ok = ltb-true i 32 ok
-  ok_readable (Not l) le ok = let e = ok_earlier (Not l) ok in omega arith
-  ok_readable (And l r) le ok = let e = ok_earlier (And l r) ok in (omega arith, omega arith)
-  ok_readable (Or l r) le ok = let e = ok_earlier (Or l r) ok in (omega arith, omega arith)
-  ok_readable (Once l a b) le ok = let e = ok_earlier (Once l a b) ok in omega arith
-  ok_readable (Always l a b) le ok = let e = ok_earlier (Always l a b) ok in omega arith
-  ok_readable (Since l r a b) le ok = let e = ok_earlier (Since l r a b) ok in (omega arith, omega arith)
-  ok_readable (Rule i l) le ok = let e = ok_earlier (Rule i l) ok in (ltb-true i 16 (and_parts (ltb i 16) (operand_ok rows k l) ok).0, omega arith)
+readable : (rows : List Row) (k : ℕ) (r : Row) → k ≤ 64 → row_ok rows k r ≡ true → Readable r
+readable rows k (Input i) le ok = ltb-true i 32 ok
+readable rows k (Not l) le ok = row_earlier rows k 64 le (Not l) ok
+readable rows k (And l r) le ok = row_earlier rows k 64 le (And l r) ok
+readable rows k (Or l r) le ok = row_earlier rows k 64 le (Or l r) ok
+readable rows k (Once l a b) le ok = row_earlier rows k 64 le (Once l a b) ok
+readable rows k (Always l a b) le ok = row_earlier rows k 64 le (Always l a b) ok
+readable rows k (Since l r a b) le ok = row_earlier rows k 64 le (Since l r a b) ok
+readable rows k (Rule i l) le ok = (ltb-true i 16 (and_parts _ _ ok).0, row_earlier rows k 64 le (Rule i l) ok)
 
 -- the rows in use: the first n, of at most 64
 module _ (rows : List Row) (n : ℕ) (few : n ≤ 64) (each : EachOk rows n) where
@@ -58,16 +31,16 @@ module _ (rows : List Row) (n : ℕ) (few : n ≤ 64) (each : EachOk rows n) whe
   used_row k lt = get_or-take n rows k (Input 0) lt
 
   pub used_earlier : (k : ℕ) → k < n → Earlier k (row_at (take n rows) k)
-  used_earlier k lt = subst (Earlier k) (sym (used_row k lt)) (ok_earlier rows k (row_at rows k) (each k lt))
+  used_earlier k lt = subst (Earlier k) (sym (used_row k lt)) (row_earlier rows k k (omega arith) (row_at rows k) (each k lt))
 
   pub used_chained : Chained (take n rows)
   used_chained k lt = used_earlier k (omega (arith, used_most))
 
   pub used_proper : (k : ℕ) → k < length (take n rows) → Proper (row_at (take n rows) k)
-  used_proper k lt = let low : k < n = omega (arith, used_most) in subst Proper (sym (used_row k low)) (ok_proper rows k (row_at rows k) (each k low))
+  used_proper k lt = let low : k < n = omega (arith, used_most) in subst Proper (sym (used_row k low)) (row_proper rows k (row_at rows k) (each k low))
 
-  pub used_readable : (k : ℕ) → k < n → Readable (row_at rows k)
-  used_readable k lt = ok_readable rows k (row_at rows k) (omega arith) (each k lt)
+  pub used_readable : (k : ℕ) → k < n → Readable (row_at (take n rows) k)
+  used_readable k lt = subst Readable (sym (used_row k lt)) (readable rows k (row_at rows k) (omega arith) (each k lt))
 
 -- timed rows, one after another
 one_more : (r : Row) → cond (is_timed r) 1 0 ≤ 1
@@ -110,8 +83,28 @@ timed_all rows (suc k) le =
       | inr more ↦ ap (λ b. cond b 1 0 + timed_before rows k) (beyond rows k more) ∙ zero-add (timed_before rows k) ∙ timed_all rows k more
     ]
 
-module _ (rows : List Row) (n : ℕ) (few : n ≤ 64) (each : EachOk rows n) where
-  -- the memory of a row in use lies among those of the timed rows
-  pub used_place : (k : ℕ) → k < n → is_timed (row_at rows k) ≡ true → timed_before (take n rows) k < timed_rows (take n rows)
-  used_place k lt timed =
-      omega (arith, timed_past (take n rows) k n lt (ap is_timed (used_row rows n few each k lt) ∙ timed), timed_all (take n rows) n (used_most rows n few each))
+module _ (p : Plan) where
+  pub plan_chained : Chained (rows_of p)
+  plan_chained = used_chained p.rows p.count p.few p.each
+
+  pub plan_proper : (k : ℕ) → k < length (rows_of p) → Proper (row_at (rows_of p) k)
+  plan_proper = used_proper p.rows p.count p.few p.each
+
+-- a row that a plan gives along its chain
+module _ (p : Plan) (rows : List Row) (is : rows ≡ rows_of p) (k : ℕ) (lt : k < length rows) where
+  pub given_low : k < p.count
+  given_low = omega (arith, lt, ap length is, used_most p.rows p.count p.few p.each)
+
+  pub given_earlier : (j : ℕ) → j < k + 1 → Earlier j (row_at (rows_of p) j)
+  given_earlier j low = used_earlier p.rows p.count p.few p.each j (omega (arith, given_low))
+
+  pub given_readable : Readable (row_at rows k)
+  given_readable = subst (λ rs. Readable (row_at rs k)) (sym is) (used_readable p.rows p.count p.few p.each k given_low)
+
+  -- its memory lies among those of the timed rows
+  pub given_place : (at : ℕ) → at ≡ timed_before (rows_of p) k → is_timed (row_at rows k) ≡ true → at < timed_rows (rows_of p)
+  given_place at place timed =
+      omega (arith, place, timed_past (rows_of p) k (length (rows_of p)) (omega (arith, lt, ap length is)) (ap (λ rs. is_timed (row_at rs k)) (sym is) ∙ timed))
+
+  pub given_early : (at : ℕ) → at ≡ timed_before (rows_of p) k → at < 64
+  given_early at place = omega (arith, place, timed_most (rows_of p) k, given_low, p.few)

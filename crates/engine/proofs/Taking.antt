@@ -1,12 +1,12 @@
 -- The memories of the rows, told one after another. Assumes nothing.
-use Rattle.std.proofs.Common.{◌≡◌, ℕ, ◌+◌, ◌≤◌, Bool, true, false, cond, List, length, get_or, sym, ap, ◌∙◌, ap₂, inl, inr, arith, below_more}
+use Rattle.std.proofs.Common.{◌≡◌, ℕ, ◌+◌, Bool, true, false, cond, List, get_or, sym, ap, ◌∙◌, ap₂, inl, inr, arith, below_more}
 use Rattle.std.proofs.lemmas.Bool.{cases_Bool}
 use Rattle.mitl.specs.declared.Row.{Row}
 use Rattle.mitl.specs.Blocks.{advanced}
 use Rattle.mitl.specs.Memory.{Meaning}
 use Rattle.mitl.specs.Rows.{row_at, is_timed, timed_before}
 use Rattle.engine.specs.Steps.{Told, Advanced}
-use Rattle.engine.proofs.Plans.{timed_past, timed_next, timed_all}
+use Rattle.engine.proofs.Plans.{timed_past, timed_next}
 
 module _ {X : Type 0} (meaning : X → Meaning) (rows : List Row) (v : ℕ → Bool) (n k : ℕ) (xs ys zs : List X) (row : Row) (at : ℕ) where
   pub advanced_more : Advanced meaning rows v n k xs ys → row_at rows k ≡ row → at ≡ timed_before rows k
@@ -28,7 +28,3 @@ module _ {X : Type 0} (meaning : X → Meaning) (rows : List Row) (v : ℕ → B
           | inr plain ↦ ap (λ ms. get_or ms i z) (still plain) ∙ a.past i z (omega (arith, timed_next rows k))
         ];
   }
-
-module _ {X : Type 0} (meaning : X → Meaning) (rows : List Row) (v : ℕ → Bool) (n k : ℕ) (xs ys : List X) where
-  pub advanced_all : length rows ≤ k → Advanced meaning rows v n k xs ys → Advanced meaning rows v n (length rows) xs ys
-  advanced_all le a = record { there = λ j z lt. a.there j z (omega arith); past = λ i z low. a.past i z (omega (arith, timed_all rows k le)) }

@@ -13,7 +13,7 @@ use Rattle.mitl.proofs.Causal.{verdict_append}
 use Rattle.mitl.proofs.Rules.{verdict_only}
 use Rattle.engine.specs.Due.{coming}
 use Rattle.engine.specs.Held.{coming_first}
-use Rattle.engine.proofs.Foresight.{some_same}
+use Rattle.plan.proofs.Below.{some_same}
 
 -- a word whose bits are the rules, read as v, is the verdict
 pub verdict_is : (rows : List Row) (h : List ℕ) (t z : ℕ) (v : ℕ → Bool) → z < 65536

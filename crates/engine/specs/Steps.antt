@@ -1,5 +1,5 @@
 -- One step over the rows, and how it changes the memories. Assumes nothing.
-use Rattle.std.specs.Prelude.{◌≡◌, ℕ, ◌<◌, ◌≤◌, min, Bool, true, false, not, ◌&&◌, ◌||◌, List, map, Some, None, Option, ◌≢◌, slice_index_or}
+use Rattle.std.specs.Prelude.{◌≡◌, ℕ, ◌<◌, ◌≤◌, min, Bool, true, false, not, ◌&&◌, ◌||◌, List, map, length, Some, None, Option, ◌≢◌, slice_index_or}
 use Rattle.mitl.specs.declared.Row.{Row}
 use Rattle.mitl.specs.declared.Row.TheVariants.{Input, Not, And, Or, Once, Always, Since, Rule}
 use Rattle.mitl.specs.Formulas.{bit}
@@ -7,6 +7,7 @@ use Rattle.mitl.specs.Memory.{Meaning, new_memory, ahead}
 use Rattle.mitl.specs.Rows.{row_at, timed_before, is_timed, is_rule}
 use Rattle.mitl.specs.Windows.{some_below}
 use Rattle.mitl.specs.Blocks.{advanced}
+use Rattle.engine.specs.declared.reading.Step.{Step}
 
 -- what the memory at place i means; where there is none, a new memory
 abbrev pub meant : {X : Type 0} → (X → Meaning) → List X → ℕ → Meaning
@@ -76,6 +77,10 @@ pub record Foreseen {X : Type 0} (meaning : X → Meaning) (rows : List Row) (w 
   pub some : Before 0 o
   pub small : z < 65536
   pub bits : (i : ℕ) → bit i z ≡ some_below (λ k. is_rule i (row_at rows k) && reading vs k) n
+
+-- the step has the readings of all rows, their verdict word, and for how long they stay
+abbrev pub Foresees : {X : Type 0} → (X → Meaning) → List Row → ℕ → List X → Step → Type 0
+Foresees meaning rows w ms s = Foreseen meaning rows w ms (length rows) s.readings s.word s.lasts
 
 -- The memories of the first j rows took n ticks at which the rows have the readings v; the memories past them stay.
 pub record Advanced {X : Type 0} (meaning : X → Meaning) (rows : List Row) (v : ℕ → Bool) (n : ℕ) (j : ℕ) (xs ys : List X) : Type 0 where

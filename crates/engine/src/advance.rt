@@ -8,7 +8,6 @@ ghost use Rattle.engine.specs.Means.{Changed};
 ghost use Rattle.engine.specs.Steps.{Advanced, Readable, Told, reading as reading_of};
 
 use crate::memory::{take_always, take_at, take_since};
-use crate::reading::past;
 use mitl::Row;
 use plan::plan::Plan;
 use window::WindowMemory;
@@ -21,7 +20,9 @@ fn advance_row<M: WindowMemory>(
     part: &mut [M],
     at: usize,
 ) -> usize
-    requires { Readable row × (is_timed row ≡ true → at < length part.old) × (at < 64) }
+    requires readable { Readable row }
+    requires place { is_timed row ≡ true → at < length part.old }
+    requires early { at < 64 }
     ensures behind { result ≡ (if is_timed row then 1 else 0) + at }
     ensures told { Told M.meaning (advanced row (reading_of vs.now) n) at part.old part.new }
     ensures still { is_timed row ≡ false → part.new ≡ part.old }
@@ -44,25 +45,15 @@ fn advance_row<M: WindowMemory>(
 }
 
 // The memories of all rows take n ticks at which the rows have these readings.
+#[tactic(auto, using(crate::proofs::Plans::given_readable, crate::proofs::Plans::given_early, crate::proofs::Plans::given_place))]
 pub(crate) fn advance<M: WindowMemory>(plan: &Plan, vs: &[bool; 64], n: u32, part: &mut [M])
     requires { timed_rows (rows_of plan.now) ≤ length part.old }
     ensures { Advanced M.meaning (rows_of plan.now) (reading_of vs.now) n (length (rows_of plan.now)) part.old part.new }
 {
     let mut at = 0;
-    for k in 0..plan.count {
-        at = advance_row(plan.rows[k], vs, n, part, at);
+    for row in plan.chain() {
+        at = advance_row(*row, vs, n, part, at);
     }
-}
-
-// How many timed rows the plan has.
-pub(crate) fn timed(plan: &Plan) -> usize
-    ensures { result ≡ timed_rows (rows_of plan.now) }
-{
-    let mut at = 0;
-    for k in 0..plan.count {
-        at = past(plan.rows[k], at);
-    }
-    at
 }
 
 // The first memories are cleared.
@@ -70,9 +61,7 @@ pub(crate) fn clear_first<M: WindowMemory>(part: &mut [M], end: usize)
     requires { end ≤ length part.old }
     ensures { Changed M.meaning cleared end part.old part.new }
 {
-    for i in 0..end {
-        let mut m = part[i];
-        m.clear();
-        part[i] = m;
+    for memory in part[..end].iter_mut() {
+        memory.clear();
     }
 }

@@ -1,4 +1,4 @@
-//! One memory of a car's part: asked in its place, and told by copying it out and storing it back.
+//! One memory of a car's part, asked and told in its place.
 ghost use Rattle.std.specs.Prelude.{◌<◌, false, not, ◌&&◌, length, if◌then◌else◌};
 ghost use Rattle.mitl.specs.Memory.{cleared, took, ahead, Lasts};
 ghost use Rattle.engine.specs.Steps.{meant, Told};
@@ -6,7 +6,9 @@ ghost use Rattle.engine.specs.Steps.{meant, Told};
 use crate::lasting::turned;
 use window::WindowMemory;
 
-// The verdict of the memory at this place, and for how long it lasts, while its operand keeps this value.
+// The verdict of the memory at this place, and for how long it lasts, while its operand keeps this value: the pair that
+// a memory's `run` answers.
+#[tactic(auto, using(crate::proofs::Meant::meant_is))]
 pub(crate) fn run_at<M: WindowMemory>(part: &[M], at: usize, operand: bool) -> (bool, Option<u32>)
     requires { at < length part.now }
     ensures { Lasts (ahead (meant M.meaning part.now at).a operand (meant M.meaning part.now at).mark) result.0 result.1 }
@@ -15,6 +17,7 @@ pub(crate) fn run_at<M: WindowMemory>(part: &[M], at: usize, operand: bool) -> (
 }
 
 // B runs on by the opposite of the left reading, turned round.
+#[tactic(auto, using(crate::proofs::Lengths::lasts_turned))]
 pub(crate) fn run_always<M: WindowMemory>(part: &[M], at: usize, left: bool) -> (bool, Option<u32>)
     requires { at < length part.now }
     ensures { Lasts (λ d. not (ahead (meant M.meaning part.now at).a (not left) (meant M.meaning part.now at).mark d)) result.0 result.1 }
@@ -44,9 +47,7 @@ pub(crate) fn take_at<M: WindowMemory>(part: &mut [M], at: usize, operand: bool,
     requires { at < length part.old }
     ensures { Told M.meaning (took operand n) at part.old part.new }
 {
-    let mut m = part[at];
-    m.take(operand, n);
-    part[at] = m;
+    part[at].take(operand, n);
 }
 
 // The memory at this place is cleared.
@@ -54,9 +55,7 @@ pub(crate) fn clear_at<M: WindowMemory>(part: &mut [M], at: usize)
     requires { at < length part.old }
     ensures { Told M.meaning cleared at part.old part.new }
 {
-    let mut m = part[at];
-    m.clear();
-    part[at] = m;
+    part[at].clear();
 }
 
 // B takes the opposite of the left reading.

@@ -3,7 +3,7 @@ ghost use Rattle.std.specs.Prelude.{◌≡◌, ◌+◌, ◌<◌, ◌≤◌, true
 ghost use Rattle.mitl.specs.Memory.{Lasts};
 ghost use Rattle.mitl.specs.Rows.{is_timed, timed_rows};
 ghost use Rattle.plan.specs.Rows.{rows_of};
-ghost use Rattle.engine.specs.Steps.{Foreseen, Readable, meant, reading as reading_of, seen};
+ghost use Rattle.engine.specs.Steps.{Foresees, Readable, meant, reading as reading_of, seen};
 
 use crate::lasting::shorter_of;
 use crate::memory::{run_always, run_at, run_since};
@@ -20,7 +20,9 @@ fn settle<M: WindowMemory>(
     part: &[M],
     at: usize,
 ) -> (bool, Option<u32>, usize)
-    requires { Readable row × (is_timed row ≡ true → at < length part.now) × (at < 64) }
+    requires readable { Readable row }
+    requires place { is_timed row ≡ true → at < length part.now }
+    requires early { at < 64 }
     ensures behind { result.2 ≡ (if is_timed row then 1 else 0) + at }
     ensures lasts { Lasts (seen row (meant M.meaning part.now at) (reading_of vs.now) word) result.0 result.1 }
 {
@@ -45,17 +47,6 @@ fn settle<M: WindowMemory>(
     }
 }
 
-// The place in the part past the memory of this row, if it has one.
-pub(crate) fn past(row: Row, at: usize) -> usize
-    requires { at < 64 }
-    ensures { result ≡ (if is_timed row then 1 else 0) + at }
-{
-    match row {
-        Row::Once { .. } | Row::Always { .. } | Row::Since { .. } => at + 1,
-        _ => at,
-    }
-}
-
 // The readings of all rows at the next tick, the verdict word, and for how long they stay if the input word does.
 #[derive(Clone, Copy)]
 pub(crate) struct Step {
@@ -64,19 +55,19 @@ pub(crate) struct Step {
     pub lasts: Option<u32>,
 }
 
+#[tactic(auto, using(crate::proofs::Plans::given_readable, crate::proofs::Plans::given_early, crate::proofs::Plans::given_place))]
 pub(crate) fn next<M: WindowMemory>(plan: &Plan, word: u32, part: &[M]) -> Step
     requires { timed_rows (rows_of plan.now) ≤ length part.now }
-    ensures { Foreseen M.meaning (rows_of plan.now) word part.now (length (rows_of plan.now)) result.readings result.word result.lasts }
+    ensures { Foresees M.meaning (rows_of plan.now) word part.now result }
 {
     let mut readings = [false; 64];
     let mut verdict = 0;
     let mut lasts = None;
     let mut at = 0;
-    for k in 0..plan.count {
-        let row = plan.rows[k];
-        let (yes, n, behind) = settle(row, word, &readings, part, at);
+    for (k, row) in plan.chain().iter().enumerate() {
+        let (yes, n, behind) = settle(*row, word, &readings, part, at);
         readings[k] = yes;
-        verdict = with_row(verdict, row, yes);
+        verdict = with_row(verdict, *row, yes);
         lasts = shorter_of(n, lasts);
         at = behind;
     }

@@ -4,7 +4,7 @@
 
 use bit_marks::BitMarks;
 use clock_pairs::ClockPairs;
-use engine::feed;
+use engine::{Inputs, feed};
 use mitl::Row;
 use plan::build;
 use plan::plan::Plan;
@@ -48,12 +48,7 @@ fn main(rt: HostRuntime) -> io::Result<()> {
 }
 
 fn is_asked(rt: &HostRuntime) -> io::Result<bool> {
-    for word in env::args(rt)?.skip(1) {
-        if word.as_str() == "run" {
-            return Ok(true);
-        }
-    }
-    Ok(false)
+    Ok(env::args(rt)?.skip(1).any(|word| word.as_str() == "run"))
 }
 
 // Twelve rows, four of them timed. No window reaches further back than eight ticks, so that readings change at tick 8
@@ -129,21 +124,19 @@ fn row<M: WindowMemory>(
     println!(rt; "| {kind} | {ticks} | {record} | {notes} | {sum} |")
 }
 
+// The window of a timed row.
+fn window(row: &Row) -> Option<(u32, u32)> {
+    match *row {
+        Row::Once { a, b, .. } | Row::Always { a, b, .. } | Row::Since { a, b, .. } => Some((a, b)),
+        _ => None,
+    }
+}
+
 // Each timed row's memory for its window.
 fn prepare<M: WindowMemory>(plan: &Plan, part: &mut [M]) {
-    let mut at = 0;
-    for row in plan.rows.iter().take(plan.count) {
-        match *row {
-            Row::Once { a, b, .. } | Row::Always { a, b, .. } | Row::Since { a, b, .. } => {
-                if at < part.len() {
-                    let mut m = part[at];
-                    m.prepare(a, b);
-                    part[at] = m;
-                    at += 1;
-                }
-            }
-            _ => {}
-        }
+    let windows = plan.rows.iter().take(plan.count).filter_map(window);
+    for (memory, (a, b)) in part.iter_mut().zip(windows) {
+        memory.prepare(a, b);
     }
 }
 
@@ -170,7 +163,12 @@ fn feeds<M: WindowMemory>(
     let mut notes = 0usize;
     let mut sum = 0u32;
     for i in 0..RECORDS {
-        let fed = feed(plan, CAR, i % 8, ticks, part, places);
+        let inputs = Inputs {
+            car: CAR,
+            word: i % 8,
+            ticks,
+        };
+        let fed = feed(plan, inputs, part, places);
         notes = notes.wrapping_add(fed.notes);
         for note in places.iter().take(fed.notes) {
             sum = sum.wrapping_mul(31).wrapping_add(u32::from(note.word));

@@ -4,9 +4,10 @@
 
 #[cfg(test)]
 mod tests {
+    use arrayvec::ArrayVec;
     use bit_marks::BitMarks;
     use clock_pairs::ClockPairs;
-    use engine::feed;
+    use engine::{Inputs, feed};
     use mitl::Row;
     use plan::build;
     use plan::plan::Plan;
@@ -186,8 +187,14 @@ mod tests {
     fn cuts<M: WindowMemory>(rt: &impl Abort, once: &Plan, part: &mut [M]) {
         let words = [0, 0, 1, 1, 1, 0, 0, 1, 1, 1, 1, 0];
         for most in 1..8 {
-            assert_eq!(rt; spelt(rt, once, part, most, &mut [UNUSED; 1]), words);
-            assert_eq!(rt; spelt(rt, once, part, most, &mut [UNUSED; 4]), words);
+            assert_eq!(rt;
+                spelt(rt, once, part, most, &mut [UNUSED; 1]).as_slice(),
+                &words[..]
+            );
+            assert_eq!(rt;
+                spelt(rt, once, part, most, &mut [UNUSED; 4]).as_slice(),
+                &words[..]
+            );
         }
     }
 
@@ -198,46 +205,31 @@ mod tests {
         part: &mut [M],
         most: u32,
         places: &mut [Note],
-    ) -> [u16; 12] {
+    ) -> ArrayVec<u16, 12> {
         ready(rt, plan, part);
-        let mut spelling = Spelling {
-            words: [UNUSED.word; 12],
-            count: 0,
-        };
+        let mut words = ArrayVec::new();
         for (word, ticks) in [(1, 1), (0, 4), (1, 2), (0, 5)] {
             let mut left = ticks;
             for _ in 0..ticks {
-                let fed = feed(plan, CAR, word, most.min(left), part, places);
-                spelling.add(places, fed.notes);
+                let inputs = Inputs {
+                    car: CAR,
+                    word,
+                    ticks: most.min(left),
+                };
+                let fed = feed(plan, inputs, part, places);
+                for note in places.iter().take(fed.notes) {
+                    spell(rt, &mut words, *note);
+                }
                 left = left.saturating_sub(fed.ticks);
             }
         }
-        assert_eq!(rt; spelling.count, 12);
-        spelling.words
+        words
     }
 
-    // The verdict words of ticks, one after another.
-    #[derive(Drop)]
-    struct Spelling {
-        words: [u16; 12],
-        count: usize,
-    }
-
-    impl Spelling {
-        // The words of the first so many notes.
-        fn add(&mut self, notes: &[Note], count: usize) {
-            for note in notes.iter().take(count) {
-                for _ in 0..note.ticks {
-                    self.push(note.word);
-                }
-            }
-        }
-
-        fn push(&mut self, word: u16) {
-            if self.count < 12 {
-                self.words[self.count] = word;
-                self.count += 1;
-            }
+    // Adds a note's word, once for each of its ticks.
+    fn spell(rt: &impl Abort, words: &mut ArrayVec<u16, 12>, note: Note) {
+        for _ in 0..note.ticks {
+            assert!(rt; words.try_push(note.word).is_ok());
         }
     }
 
@@ -247,26 +239,25 @@ mod tests {
         for (place, row) in all.iter_mut().zip(rows) {
             *place = *row;
         }
-        match build(all, [0; 64], rows.len()) {
-            Some(plan) => Ok(plan),
-            None => Err(Fail::new("no plan")),
+        build(all, [0; 64], rows.len()).ok_or_else(|| Fail::new("no plan"))
+    }
+
+    // The window of a timed row.
+    fn window(row: &Row) -> Option<(u32, u32)> {
+        match *row {
+            Row::Once { a, b, .. } | Row::Always { a, b, .. } | Row::Since { a, b, .. } => {
+                Some((a, b))
+            }
+            _ => None,
         }
     }
 
     // Before the first tick: the memory of each timed row has its window and no mark.
     fn ready<M: WindowMemory>(rt: &impl Abort, plan: &Plan, part: &mut [M]) {
-        let mut at = 0;
-        for row in plan.rows.iter().take(plan.count) {
-            match *row {
-                Row::Once { a, b, .. } | Row::Always { a, b, .. } | Row::Since { a, b, .. } => {
-                    assert!(rt; at < part.len());
-                    let mut m = part[at];
-                    assert!(rt; m.prepare(a, b));
-                    part[at] = m;
-                    at += 1;
-                }
-                _ => {}
-            }
+        assert!(rt; plan.counts().timed <= part.len());
+        let windows = plan.chain().iter().filter_map(window);
+        for (memory, (a, b)) in part.iter_mut().zip(windows) {
+            assert!(rt; memory.prepare(a, b));
         }
     }
 
@@ -293,7 +284,12 @@ mod tests {
         places: &mut [Note],
         notes: &[(u16, u32)],
     ) {
-        let fed = feed(plan, CAR, word, ticks, part, places);
+        let inputs = Inputs {
+            car: CAR,
+            word,
+            ticks,
+        };
+        let fed = feed(plan, inputs, part, places);
         assert_eq!(rt; fed.notes, notes.len());
         let mut taken = 0u32;
         for (place, (word, ticks)) in places.iter().zip(notes) {

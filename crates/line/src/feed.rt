@@ -1,15 +1,16 @@
-//! Feeding one record to a watch, in as many parts as its notes need, and telling the replies.
+//! Feeding the records of a line to its watch, each in as many parts as its notes need, and telling the replies.
 ghost use Rattle.std.specs.Prelude.{◌≡◌, ◌||◌, IfOk};
-ghost use Rattle.record.specs.Layout.{is_R, is_E};
+ghost use Rattle.record.specs.Layout.{is_R, is_E, fields_at};
 ghost use Rattle.line.specs.Rest.{RestOfBytes};
 
 use crate::rest_of;
 use crate::text::Text;
+use crate::wire::Wire;
 use cars::FeedFault;
 use engine::Fed;
 use record::{Car, Note, Record};
 use std::io;
-use std::io::Write;
+use std::io::{Read, Write};
 use watch::Watch;
 use window::WindowMemory;
 
@@ -22,14 +23,11 @@ const NO_NOTE: Note = Note {
     ticks: 0,
 };
 
-// A line for each of the first notes.
-fn tell_notes<W: Write>(out: &mut W, notes: &[Note], count: usize) -> io::Result<()> {
-    let mut line = Text::new();
-    for note in notes.iter().take(count) {
-        line.set_note(*note);
-        line.send(out)?;
-    }
-    Ok(())
+// A line under watch: its two ends, and the watch that its records are fed to.
+#[derive(Drop)]
+pub struct Line<'a, M: WindowMemory, R: Read + Drop, W: Write + Drop> {
+    pub wire: Wire<R, W>,
+    pub watch: Watch<'a, M>,
 }
 
 // Whether a record with this letter is told by its car: restarts and ends, which have no notes.
@@ -39,64 +37,61 @@ fn is_told_by_car(letter: char) -> bool
     matches!(letter, 'R' | 'E')
 }
 
-// The lines for what was fed.
-fn tell<W: Write>(out: &mut W, fed: Fed, part: Record, notes: &[Note]) -> io::Result<()> {
-    if is_told_by_car(part.letter) {
+impl<'a, M: WindowMemory, R: Read + Drop, W: Write + Drop> Line<'a, M, R, W> {
+    // Sends a line of text.
+    pub fn tell(&mut self, text: &Text) -> io::Result<()> {
+        text.send(self.wire.out())
+    }
+
+    // The lines for what was fed: one for each note.
+    fn tell_fed(&mut self, fed: Fed, part: Record, notes: &[Note]) -> io::Result<()> {
+        if is_told_by_car(part.letter) {
+            return self.tell(&Text::car(part.car));
+        }
         let mut line = Text::new();
-        line.set_car(part.car);
-        line.send(out)
-    } else {
-        tell_notes(out, notes, fed.notes)
+        for note in notes.iter().take(fed.notes) {
+            line.set_note(*note);
+            self.tell(&line)?;
+        }
+        Ok(())
     }
-}
 
-fn tell_fault<W: Write>(out: &mut W, fault: FeedFault) -> io::Result<()> {
-    let mut line = Text::new();
-    line.set_refusal(fault.into());
-    line.send(out)
-}
+    // Feeds one part: the record in it, and what was fed of it.
+    fn feed(&mut self, bytes: &[u8], notes: &mut [Note]) -> Result<(Record, Fed), FeedFault>
+        ensures { IfOk result (λ p. p.0 ≡ fields_at bytes.now) }
+    {
+        let fed = self.watch.feed(bytes, notes)?;
+        let part = Record::read(bytes)?;
+        Ok((part, fed))
+    }
 
-// Feeds one part and tells the reply: what is left of the record then.
-fn serve_part<M: WindowMemory, W: Write>(
-    out: &mut W,
-    watch: &mut Watch<'_, M>,
-    bytes: &[u8],
-) -> io::Result<Option<Record>>
-    ensures { IfOk result (RestOfBytes bytes.now) }
-{
-    let mut notes = [NO_NOTE; PLACES];
-    let fed = match watch.feed(bytes, &mut notes) {
-        Ok(fed) => fed,
-        Err(fault) => {
-            tell_fault(out, fault)?;
-            return Ok(None);
-        }
-    };
-    match Record::read(bytes) {
-        Ok(part) => {
-            tell(out, fed, part, &notes)?;
-            Ok(rest_of(part, fed.ticks))
-        }
-        Err(fault) => {
-            tell_fault(out, FeedFault::Record(fault))?;
-            Ok(None)
+    // Feeds one part and tells the reply: what is left of the record then.
+    fn serve_part(&mut self, bytes: &[u8]) -> io::Result<Option<Record>>
+        ensures { IfOk result (RestOfBytes bytes.now) }
+    {
+        let mut notes = [NO_NOTE; PLACES];
+        match self.feed(bytes, &mut notes) {
+            Ok((part, fed)) => {
+                self.tell_fed(fed, part, &notes)?;
+                Ok(rest_of(part, fed.ticks))
+            }
+            Err(fault) => {
+                self.tell(&Text::refusal(fault.into()))?;
+                Ok(None)
+            }
         }
     }
-}
 
-// Feeds a record, and then its rest until all of it is taken.
-pub fn serve_record<M: WindowMemory, W: Write>(
-    out: &mut W,
-    watch: &mut Watch<'_, M>,
-    bytes: &[u8],
-) -> io::Result<()> {
-    let mut left = serve_part(out, watch, bytes)?;
-    while let Some(rest) = left {
-        let mut part = [0; 12];
-        if let Err(fault) = rest.write(&mut part) {
-            return tell_fault(out, FeedFault::Record(fault));
+    // Feeds a record, and then its rest until all of it is taken.
+    pub fn serve_record(&mut self, bytes: &[u8]) -> io::Result<()> {
+        let mut left = self.serve_part(bytes)?;
+        while let Some(rest) = left {
+            let mut part = [0; 12];
+            if let Err(fault) = rest.write(&mut part) {
+                return self.tell(&Text::refusal(fault.into()));
+            }
+            left = self.serve_part(&part)?;
         }
-        left = serve_part(out, watch, &part)?;
+        Ok(())
     }
-    Ok(())
 }

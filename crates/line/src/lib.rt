@@ -5,14 +5,14 @@
 
 #![tactic(auto)]
 
-ghost use Rattle.std.specs.Prelude.{◌≡◌, ◌+◌, ◌*◌, ◌≤◌, length, IfOk};
+ghost use Rattle.std.specs.Prelude.{◌≡◌, ◌+◌, ◌*◌, ◌≤◌, length};
 ghost use Rattle.line.specs.Rest.{Rest};
 
 mod feed;
 mod text;
 mod wire;
 
-use feed::serve_record;
+use feed::Line;
 use plan::Counts;
 use record::{Car, Record};
 use std::alloc::Global;
@@ -47,25 +47,20 @@ pub fn rest_of(whole: Record, taken: u32) -> Option<Record>
     }
 }
 
-// The cars that come in, in order: how many came whole.
-fn take_cars<R: Read + Drop, W: Write + Drop>(
+// The cars that come in, in order: those that came whole.
+fn take_cars<'c, R: Read + Drop, W: Write + Drop>(
     wire: &mut Wire<R, W>,
-    cars: &mut [Car; CARS],
-) -> io::Result<usize>
-    ensures { IfOk result (λ n. n ≤ 255) }
-{
+    cars: &'c mut [Car; CARS],
+) -> io::Result<&'c [Car]> {
     let mut number = [0];
     wire.take(&mut number)?;
-    let mut count = 0;
-    for i in 0..number[0] as usize {
-        let mut bytes = [0; 2];
-        if wire.take(&mut bytes)? < 2 {
-            break;
-        }
-        cars[i] = Car::from_bytes(bytes);
-        count = i + 1;
+    let mut bytes = [0; 2 * CARS];
+    let came = wire.take(&mut bytes[..2 * number[0] as usize])?;
+    let (pairs, _) = bytes[..came].as_chunks();
+    for (car, pair) in cars.iter_mut().zip(pairs) {
+        *car = Car::from_bytes(*pair);
     }
-    Ok(count)
+    Ok(&cars[..came / 2])
 }
 
 // The bytes of a table of so many rows.
@@ -75,48 +70,42 @@ fn table_size(rows: u8) -> usize
     HEAD + rows as usize * ROW
 }
 
-// The table that comes in: how many bytes of it came.
-fn take_table<R: Read + Drop, W: Write + Drop>(
+// The table that comes in: the bytes of it that came.
+fn take_table<'t, R: Read + Drop, W: Write + Drop>(
     wire: &mut Wire<R, W>,
-    table: &mut [u8; TABLE],
-) -> io::Result<usize>
-    ensures { IfOk result (λ n. n ≤ 4088) }
-{
+    table: &'t mut [u8; TABLE],
+) -> io::Result<&'t [u8]> {
     let head = wire.take(&mut table[..HEAD])?;
     if head < HEAD {
-        return Ok(head);
+        return Ok(&table[..head]);
     }
     let size = table_size(table[4]);
     let rows = wire.take(&mut table[HEAD..size])?;
-    Ok(HEAD + rows)
+    Ok(&table[..HEAD + rows])
 }
 
-// Set with the cars and the table that come in.
-fn set<M: WindowMemory, R: Read + Drop, W: Write + Drop>(
-    wire: &mut Wire<R, W>,
-    watch: &mut Watch<'_, M>,
-) -> io::Result<Result<Counts, SetFault>> {
-    let mut cars = [Car { number: 0 }; CARS];
-    let listed = take_cars(wire, &mut cars)?;
-    let mut table = [0; TABLE];
-    let came = take_table(wire, &mut table)?;
-    Ok(watch.set(&table[..came], &cars[..listed]))
-}
-
-// Records until the input ends. A last piece under twelve bytes is one more.
-fn serve_records<M: WindowMemory, R: Read + Drop, W: Write + Drop>(
-    wire: &mut Wire<R, W>,
-    watch: &mut Watch<'_, M>,
-) -> io::Result<()> {
-    for _ in 0..u64::MAX {
-        let mut bytes = [0; 12];
-        let came = wire.take(&mut bytes)?;
-        if came == 0 {
-            break;
-        }
-        serve_record(wire.out(), watch, &bytes[..came])?;
+impl<'a, M: WindowMemory, R: Read + Drop, W: Write + Drop> Line<'a, M, R, W> {
+    // Sets the watch with the cars and the table that come in.
+    fn set(&mut self) -> io::Result<Result<Counts, SetFault>> {
+        let mut cars = [Car { number: 0 }; CARS];
+        let listed = take_cars(&mut self.wire, &mut cars)?;
+        let mut table = [0; TABLE];
+        let came = take_table(&mut self.wire, &mut table)?;
+        Ok(self.watch.set(came, listed))
     }
-    Ok(())
+
+    // Records until the input ends. A last piece under twelve bytes is one more.
+    fn serve_records(&mut self) -> io::Result<()> {
+        for _ in 0..u64::MAX {
+            let mut bytes = [0; 12];
+            let came = self.wire.take(&mut bytes)?;
+            if came == 0 {
+                break;
+            }
+            self.serve_record(&bytes[..came])?;
+        }
+        Ok(())
+    }
 }
 
 // Serves a line from its first byte to its end, with these memories. Where there is no memory for the line's two buffers
@@ -127,19 +116,16 @@ pub fn serve<M: WindowMemory, R: Read + Drop, W: Write + Drop>(
     input: R,
     output: W,
 ) -> io::Result<()> {
-    let mut wire = Wire::new(heap, input, output)?;
-    let mut watch = Watch::new(memories);
-    let mut line = Text::new();
-    match set(&mut wire, &mut watch)? {
+    let mut line = Line {
+        wire: Wire::new(heap, input, output)?,
+        watch: Watch::new(memories),
+    };
+    match line.set()? {
         Ok(counts) => {
-            line.set_counts(counts);
-            line.send(wire.out())?;
-            serve_records(&mut wire, &mut watch)?;
+            line.tell(&Text::counts(counts))?;
+            line.serve_records()?;
         }
-        Err(fault) => {
-            line.set_refusal(fault.into());
-            line.send(wire.out())?;
-        }
+        Err(fault) => line.tell(&Text::refusal(fault.into()))?,
     }
-    wire.close()
+    line.wire.close()
 }

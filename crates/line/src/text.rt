@@ -3,6 +3,7 @@
 ghost use Rattle.std.specs.Prelude.{◌≡◌, ◌+◌, ◌<◌, ◌≤◌, [], ◌∷◌, ◌++◌, length, drop, decimal};
 ghost use Rattle.line.specs.Lines.{numbers_line, note_line, car_line, counts_line, refusal_line};
 
+use itoa::write_digits;
 use plan::Counts;
 use record::{Car, Note};
 use refusal::Refusal;
@@ -12,7 +13,8 @@ use std::io::Write;
 // The bytes of the longest line: a letter, three numbers of a space and twenty digits each, and a line feed.
 const ROOM: usize = 65;
 
-// A line, put together from its end: it stands in the bytes from `start` on.
+// A line, put together from its end: it stands in the bytes from `start` on. As a string of fixed capacity (ArrayString),
+// to which the digits are copied, it took up to a twentieth more of all the time of carwatch.
 #[derive(Drop)]
 pub struct Text {
     bytes: [u8; ROOM],
@@ -47,17 +49,7 @@ impl Text {
         ensures start { self.old.start ≤ self.new.start + 21 }
         ensures line { drop self.new.start self.new.bytes ≡ 32 ∷ (decimal number ++ drop self.old.start self.old.bytes) }
     {
-        let mut at = self.start;
-        let mut left = number;
-        loop {
-            at -= 1;
-            self.bytes[at] = b'0' + (left % 10) as u8;
-            left /= 10;
-            if left == 0 {
-                break;
-            }
-        }
-        self.start = at;
+        self.start = write_digits(number, &mut self.bytes, self.start);
         self.put(b' ');
     }
 
@@ -68,13 +60,14 @@ impl Text {
     {
         self.start = ROOM;
         self.put(b'\n');
-        for i in (0..numbers.len()).rev() {
-            self.number(numbers[i]);
+        for number in numbers.iter().rev() {
+            self.number(*number);
         }
         self.put(letter);
     }
 
-    // Makes it the line of a note.
+    // Makes it the line of a note: the lines of many notes are laid out in one text, since a new text for each took a
+    // hundredth more of all the time of carwatch.
     pub fn set_note(&mut self, note: Note)
         ensures { drop self.new.start self.new.bytes ≡ note_line note }
     {
@@ -82,26 +75,36 @@ impl Text {
         self.set(b'V', &[car, note.word as u64, note.ticks as u64]);
     }
 
-    // Makes it the line of a car that restarted or ended.
-    pub fn set_car(&mut self, car: Car)
-        ensures { drop self.new.start self.new.bytes ≡ car_line car }
+    // The line of a letter and up to three numbers.
+    fn with(letter: u8, numbers: &[u64]) -> Text
+        requires { length numbers.now ≤ 3 }
+        ensures { drop result.start result.bytes ≡ letter ∷ numbers_line numbers.now }
     {
-        self.set(b'K', &[car.number as u64]);
+        let mut line = Text::new();
+        line.set(letter, numbers);
+        line
     }
 
-    // Makes it the line of a table that stands now.
-    pub fn set_counts(&mut self, counts: Counts)
-        ensures { drop self.new.start self.new.bytes ≡ counts_line counts }
+    // The line of a car that restarted or ended.
+    pub fn car(car: Car) -> Text
+        ensures { drop result.start result.bytes ≡ car_line car }
+    {
+        Text::with(b'K', &[car.number as u64])
+    }
+
+    // The line of a table that stands now.
+    pub fn counts(counts: Counts) -> Text
+        ensures { drop result.start result.bytes ≡ counts_line counts }
     {
         let rows = counts.rows as u64;
-        self.set(b'T', &[rows, counts.rules as u64, counts.timed as u64]);
+        Text::with(b'T', &[rows, counts.rules as u64, counts.timed as u64])
     }
 
-    // Makes it the line of a refusal.
-    pub fn set_refusal(&mut self, refusal: Refusal)
-        ensures { drop self.new.start self.new.bytes ≡ refusal_line refusal }
+    // The line of a refusal.
+    pub fn refusal(refusal: Refusal) -> Text
+        ensures { drop result.start result.bytes ≡ refusal_line refusal }
     {
-        self.set(b'X', &[refusal.number as u64, refusal.place as u64]);
+        Text::with(b'X', &[refusal.number as u64, refusal.place as u64])
     }
 
     // The line's bytes.

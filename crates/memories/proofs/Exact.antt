@@ -1,87 +1,46 @@
 -- What becomes of a car's part exactly. Assumes nothing.
-use Rattle.std.proofs.Common.{◌≡◌, ℕ, ◌+◌, ◌-◌, ◌*◌, ◌<◌, ◌≤◌, Bool, true, false, ◌⊎◌, List, length, get_or, sym, refl, ap, ◌∙◌, subst, inl, inr, mul-le-mul_right, arith}
+use Rattle.std.proofs.Common.{◌≡◌, ℕ, ◌+◌, ◌-◌, ◌*◌, ◌<◌, ◌≤◌, Bool, true, false, ◌⊎◌, List, [], length, get_or, sym, refl, ap, ◌∙◌, subst, inl, inr, mul-le-mul_right, arith}
 use borrow.Rule.Slice.PartMut.{put_mid}
 use Rattle.std.specs.List.{between}
-use Rattle.std.proofs.lemmas.Bool.{both_ways, cases_lt, cases_eq, cases_Bool, leb-false, le-leb, lt-leb}
+use Rattle.std.proofs.lemmas.Bool.{both_ways, cases_lt, cases_eq, leb-false, lt-leb}
 use Rattle.mitl.specs.declared.Row.{Row}
 use Rattle.mitl.specs.Memory.{Meaning, cleared}
-use Rattle.mitl.specs.Outlook.{row_from, row_to}
-use Rattle.mitl.specs.Rows.{row_at, is_timed, timed_before, timed_rows}
+use Rattle.mitl.specs.Rows.{timed_rows}
 use Rattle.record.specs.declared.Car.{Car}
 use Rattle.record.specs.declared.Note.{Note}
 use Rattle.engine.specs.declared.Fed.{Fed}
-use Rattle.engine.specs.Means.{Changed}
-use Rattle.engine.proofs.Plans.{timed_past}
-use Rattle.memories.specs.Parts.{part_at, CarPrepared, Prepared, PreparedAt, Readied}
-use Rattle.memories.specs.Exact.{within, Ready, ReadyAt, ReadyRows, CarReadied, AllReadied, CarEmptied, PartFed, CarTold}
-use Rattle.memories.proofs.Lent.{Back, same_part, other_part}
-use Rattle.memories.proofs.Readied.{timed_more, timed_same}
+use Rattle.engine.specs.Means.{Changed, Means}
+use Rattle.engine.specs.Judged.{Judged}
+use Rattle.memories.specs.Parts.{part_at, within, CarCleared, CarFed, CarPrepared, Prepared, Readied, ReadyRows}
+use Rattle.memories.specs.Exact.{AllReadied, CarEmptied, PartFed, CarTold}
+use Rattle.memories.proofs.Lent.{Back, on_part, same_part, other_part}
 
--- one row after another
-module _ {X : Type 0} (meaning : X → Meaning) (admitted : ℕ → ℕ → Bool) (rows : List Row) (ms : List X) where
-  -- the memory of the row at place p is prepared for it
-  abbrev ForRow : ℕ → X → X → Type 0
-  ForRow p x y = Ready meaning admitted (row_from (row_at rows p)) (row_to (row_at rows p)) x y
+-- the part of a car, lent and back
+module _ {X : Type 0} (meaning : X → Meaning) (rows : List Row) (i from to : ℕ) (ms ys : List X) (back : Back (timed_rows rows) i from to ms ys) where
+  pub prepared_back : (admitted : ℕ → ℕ → Bool) → Readied meaning admitted rows (length rows) (between from to ms) ys → CarPrepared meaning admitted rows i ms (put_mid from (to - from) ms ys)
+  prepared_back admitted told = record {
+    only = back.only;
+    whole = λ _. on_part _ _ _ _ _ _ back (ReadyRows meaning admitted rows (length rows)) (told.there (omega (arith, back.many)));
+    short = λ off. absurd (both_ways _ off back.inside);
+  }
 
-  rows_timed : (k at : ℕ) (xs ys : List X) → at ≡ timed_before rows k → is_timed (row_at rows k) ≡ true
-      → PreparedAt meaning admitted at (row_from (row_at rows k)) (row_to (row_at rows k)) xs ys → ReadyAt meaning admitted at (row_from (row_at rows k)) (row_to (row_at rows k)) xs ys
-      → Readied meaning admitted rows k ms xs → at < length ms → ReadyRows meaning admitted rows k ms xs → ReadyRows meaning admitted rows (k + 1) ms ys
-  rows_timed k at xs ys place timed p new r inside before q m low q-timed =
-      elim (cases_eq q k) [
-        | inl is ↦
-            let here = subst (λ x. ForRow k x (get_or ys at m)) (r.past at m (omega (arith, place))) (new m (omega (arith, r.long))) in
-            subst (λ j. ForRow j (get_or ms (timed_before rows j) m) (get_or ys (timed_before rows j) m)) (sym is) (subst (λ i. ForRow k (get_or ms i m) (get_or ys i m)) place here)
-        | inr not ↦
-            let below : q < k = omega arith in
-            let earlier = timed_past rows q k below q-timed in
-            subst (λ y. ForRow q (get_or ms (timed_before rows q) m) y) (sym (p.others (timed_before rows q) m (λ e. omega (arith, e, place)))) (before q m below q-timed)
-      ]
-
-  rows_other : (k : ℕ) (xs : List X) → is_timed (row_at rows k) ≡ false → ReadyRows meaning admitted rows k ms xs → ReadyRows meaning admitted rows (k + 1) ms xs
-  rows_other k xs off before q m low q-timed =
-      elim (cases_eq q k) [
-        | inl is ↦ absurd (both_ways (is_timed (row_at rows k)) off (ap (λ i. is_timed (row_at rows i)) (sym is) ∙ q-timed))
-        | inr not ↦ before q m (omega arith) q-timed
-      ]
-
-  pub rows_more : (k at : ℕ) (row : Row) (xs ys : List X) → row_at rows k ≡ row → at ≡ timed_before rows k
-      → (is_timed row ≡ true → PreparedAt meaning admitted at (row_from row) (row_to row) xs ys) → (is_timed row ≡ true → ReadyAt meaning admitted at (row_from row) (row_to row) xs ys)
-      → (is_timed row ≡ false → ys ≡ xs) → Readied meaning admitted rows k ms xs → (timed_before rows k ≤ length ms → ReadyRows meaning admitted rows k ms xs)
-      → timed_before rows (k + 1) ≤ length ms → ReadyRows meaning admitted rows (k + 1) ms ys
-  rows_more k at row xs ys is place timed new other r before enough =
-      elim (cases_Bool (is_timed row)) [
-        | inl on ↦
-            let more = timed_more meaning admitted rows ms k (ap is_timed is ∙ on) in
-            rows_timed k at xs ys place (ap is_timed is ∙ on) (subst (λ w. PreparedAt meaning admitted at (row_from w) (row_to w) xs ys) (sym is) (timed on))
-            (subst (λ w. ReadyAt meaning admitted at (row_from w) (row_to w) xs ys) (sym is) (new on)) r (omega (arith, more, place)) (before (omega (arith, more)))
-        | inr off ↦
-            let same = timed_same meaning admitted rows ms k (ap is_timed is ∙ off) in
-            subst (λ zs. ReadyRows meaning admitted rows (k + 1) ms zs) (sym (other off)) (rows_other k xs (ap is_timed is ∙ off) (before (omega (arith, same))))
-      ]
-
--- what holds of the part that was lent, before and after, holds of the car's part
-on_part : {X : Type 0} (n i from to : ℕ) (ms ys : List X) → Back n i from to ms ys → (P : List X → List X → Type 0) → P (between from to ms) ys
-    → P (part_at n i ms) (part_at n i (put_mid from (to - from) ms ys))
-on_part n i from to ms ys back P holds = subst (λ zs. P (part_at n i ms) zs) (sym back.now_is) (subst (λ zs. P zs ys) (sym back.was) holds)
-
--- a car's part lies within the list
-module _ {X : Type 0} (meaning : X → Meaning) (rows : List Row) (i from to : ℕ) (ms ys : List X) (back : Back (timed_rows rows) i from to ms ys)
-    (ends : to ≡ i * timed_rows rows + timed_rows rows) (inside : to ≤ length ms) where
-  on : within (timed_rows rows) i (length ms) ≡ true
-  on = le-leb (i * timed_rows rows + timed_rows rows) (length ms) (omega arith)
-
-  pub readied_back : (admitted : ℕ → ℕ → Bool) → ReadyRows meaning admitted rows (length rows) (between from to ms) ys → CarReadied meaning admitted rows i ms (put_mid from (to - from) ms ys)
-  readied_back admitted told = record { whole = λ _. on_part (timed_rows rows) i from to ms ys back (ReadyRows meaning admitted rows (length rows)) told; short = λ off. absurd (both_ways _ off on) }
+  pub cleared_back : ((h : List ℕ) → Means meaning rows (between from to ms) h → Means meaning rows ys []) → CarCleared meaning rows i ms (put_mid from (to - from) ms ys)
+  cleared_back told = record { only = back.only; means = on_part _ _ _ _ _ _ back (λ xs zs. (h : List ℕ) → Means meaning rows xs h → Means meaning rows zs []) told }
 
   pub emptied_back : Changed meaning cleared (timed_rows rows) (between from to ms) ys → CarEmptied meaning rows i ms (put_mid from (to - from) ms ys)
-  emptied_back told = record { whole = λ _. on_part (timed_rows rows) i from to ms ys back (Changed meaning cleared (timed_rows rows)) told; short = λ off. absurd (both_ways _ off on) }
+  emptied_back told = record { whole = λ _. on_part _ _ _ _ _ _ back (Changed meaning cleared (timed_rows rows)) told; short = λ off. absurd (both_ways _ off back.inside) }
 
-  pub told_back : (c : Car) (w n : ℕ) (ns ns' : List Note) (reply : Fed) → PartFed meaning rows c w n (between from to ms) ns ys ns' reply
-      → CarTold meaning rows i c w n ms ns (put_mid from (to - from) ms ys) ns' reply
-  told_back c w n ns ns' reply told = record {
-    whole = λ _. on_part (timed_rows rows) i from to ms ys back (λ xs zs. PartFed meaning rows c w n xs ns zs ns' reply) told;
-    short = λ off. absurd (both_ways _ off on);
-  }
+  module _ (c : Car) (w n : ℕ) (ns ns' : List Note) (reply : Fed) (told : PartFed meaning rows c w n (between from to ms) ns ys ns' reply) where
+    pub fed_back : CarFed meaning rows i c w n ms ns (put_mid from (to - from) ms ys) ns' reply
+    fed_back = record {
+      only = back.only;
+      places = told.bounded.places_length;
+      rest = told.bounded.rest;
+      judged = on_part _ _ _ _ _ _ back (λ xs zs. (h : List ℕ) → Means meaning rows xs h → Judged meaning rows h c w n xs ns zs ns' reply) told.judged;
+    }
+
+    pub told_back : CarTold meaning rows i c w n ms ns (put_mid from (to - from) ms ys) ns' reply
+    told_back = record { whole = λ _. on_part _ _ _ _ _ _ back (λ xs zs. PartFed meaning rows c w n xs ns zs ns' reply) told; short = λ off. absurd (both_ways _ off back.inside) }
 
 -- one car after another
 module _ {X : Type 0} (meaning : X → Meaning) (admitted : ℕ → ℕ → Bool) (rows : List Row) (ms : List X) where
@@ -95,15 +54,15 @@ module _ {X : Type 0} (meaning : X → Meaning) (admitted : ℕ → ℕ → Bool
   all_none = record { whole = λ i lt. absurd (omega arith); short = λ i k m off le. refl }
 
   pub all_more : (cars : ℕ) (xs ys : List X) → Prepared meaning admitted rows cars ms xs → AllReadied meaning admitted rows cars ms xs
-      → CarPrepared meaning admitted rows cars xs ys → CarReadied meaning admitted rows cars xs ys → AllReadied meaning admitted rows (cars + 1) ms ys
-  all_more cars xs ys p all car c = record { whole = whole; short = λ i k m off le. stays i k m off (cases_lt cars i) le ∙ all.short i k m off le }
+      → CarPrepared meaning admitted rows cars xs ys → AllReadied meaning admitted rows (cars + 1) ms ys
+  all_more cars xs ys p all car = record { whole = whole; short = λ i k m off le. stays i k m off (cases_lt cars i) le ∙ all.short i k m off le }
     where
       whole : (i : ℕ) → i < cars + 1 → within n i (length ms) ≡ true → PartReady i ys
       whole i lt on = elim (cases_eq i cars) [
         | inl is ↦
             let here = subst (λ zs. ReadyRows meaning admitted rows (length rows) zs (part_at n cars ys))
             (same_part n cars ms xs p.long (λ k d low. p.past (cars * n + k) d (omega arith)))
-            (c.whole (ap (within n cars) p.long ∙ ap (λ j. within n j (length ms)) (sym is) ∙ on)) in
+            (car.whole (ap (within n cars) p.long ∙ ap (λ j. within n j (length ms)) (sym is) ∙ on)) in
             subst (λ j. PartReady j ys) (sym is) here
         | inr not ↦ subst (λ zs. ReadyRows meaning admitted rows (length rows) (part_at n i ms) zs) (sym (other_part n cars i xs ys car.only not)) (all.whole i (omega arith) on)
       ]
@@ -112,4 +71,4 @@ module _ {X : Type 0} (meaning : X → Meaning) (admitted : ℕ → ℕ → Bool
       stays i k m off (inl less) le = car.only.elsewhere k m (inr (omega (arith, le, mul-le-mul_right n less)))
       stays i k m off (inr more) le =
           let past : length xs < cars * n + n = omega (arith, leb-false (i * n + n) (length ms) off, p.long, mul-le-mul_right n more) in
-          ap (λ zs. get_or zs k m) (c.short (lt-leb (cars * n + n) (length xs) past))
+          ap (λ zs. get_or zs k m) (car.short (lt-leb (cars * n + n) (length xs) past))

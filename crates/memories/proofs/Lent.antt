@@ -1,20 +1,16 @@
 -- A part of a list that was lent and is back. Assumes nothing.
-use Rattle.std.proofs.Common.{◌≡◌, ℕ, ◌+◌, ◌-◌, ◌*◌, ◌<◌, ◌≤◌, min, Bool, ◌⊎◌, List, [], length, get_or, take, drop, sym, refl, ap, ◌∙◌, subst, ap₂, inl, inr, mul-le-mul_right, add-mul, one-mul, mul-zero, arith, length-drop, length-take}
+use Rattle.std.proofs.Common.{◌≡◌, ℕ, ◌+◌, ◌-◌, ◌*◌, ◌<◌, ◌≤◌, min, Bool, true, Some, ◌⊎◌, List, [], length, get_or, take, drop, sym, refl, ap, ◌∙◌, subst, ap₂, inl, inr, mul-le-mul_right, add-mul, one-mul, arith, length-drop, length-take}
 use borrow.Rule.Slice.PartMut.{put_mid, same_len_mid, mid_len}
 use Rattle.std.specs.List.{between}
 use Rattle.std.proofs.lemmas.List.{get_or_append_left, get_or-append_right, get_or-take, get_or-drop, length-take-le, same_lists}
 use Rattle.std.proofs.lemmas.Slice.{between-put_mid}
-use Rattle.std.proofs.lemmas.Bool.{cases_lt, cases_eq}
+use Rattle.std.proofs.lemmas.Bool.{cases_lt, cases_eq, le-leb}
 use Rattle.mitl.specs.declared.Row.{Row}
 use Rattle.mitl.specs.Memory.{Meaning, clean}
 use Rattle.mitl.specs.Rows.{Chained, timed_rows, formula_at, formulas}
 use Rattle.mitl.proofs.Marks.{row_window, outlook_fresh}
-use Rattle.record.specs.declared.Car.{Car}
-use Rattle.record.specs.declared.Note.{Note}
-use Rattle.engine.specs.declared.Fed.{Fed}
 use Rattle.engine.specs.Means.{Means}
-use Rattle.engine.specs.Judged.{Judged}
-use Rattle.memories.specs.Parts.{part_at, OnlyPart, Admitted, Readied, CarCleared, CarFed, CarPrepared, Prepared}
+use Rattle.memories.specs.Parts.{Spanned, within, part_at, OnlyPart, Admitted, CarPrepared, Prepared}
 
 module _ {X : Type 0} (a e : ℕ) (xs ys : List X) (order : a ≤ e) (within : e ≤ length xs) (size : length ys ≡ length (between a e xs)) where
   abbrev put : List X
@@ -71,90 +67,63 @@ other_part {X} n i j ms ms' only apart = same_part n j ms ms' only.long (λ k d 
 
 -- The part of the car at place i, lent and back.
 pub record Back {X : Type 0} (n i from to : ℕ) (ms ys : List X) : Type 0 where
+  pub inside : within n i (length ms) ≡ true
+  pub many : length (between from to ms) ≡ n
   pub only : OnlyPart n i ms (put_mid from (to - from) ms ys)
   pub now_is : part_at n i (put_mid from (to - from) ms ys) ≡ ys
   pub was : part_at n i ms ≡ between from to ms
 
-pub lent_back : {X : Type 0} (n i from to : ℕ) (ms ys : List X) → from ≡ i * n → to ≡ i * n + n → to ≤ length ms → length ys ≡ length (between from to ms) → Back n i from to ms ys
-lent_back n i from to ms ys starts ends within size =
-    let order : from ≤ to = omega arith in
-    record {
-      only = record {
-        long = put_long from to ms ys order within size;
-        elsewhere = λ k m away. elim away [
-          | inl less ↦ put_below from to ms ys order within size k m (omega arith)
-          | inr more ↦ put_past from to ms ys order within size k m (omega arith)
-        ];
-      };
-      now_is = ap₂ (λ a e. between a e (put_mid from (to - from) ms ys)) (sym starts) (sym ends) ∙ put_part from to ms ys order within size;
-      was = ap₂ (λ a e. between a e ms) (sym starts) (sym ends);
-    }
+-- what holds of the part that was lent, before and after, holds of the car's part
+pub on_part : {X : Type 0} (n i from to : ℕ) (ms ys : List X) → Back n i from to ms ys → (P : List X → List X → Type 0) → P (between from to ms) ys
+    → P (part_at n i ms) (part_at n i (put_mid from (to - from) ms ys))
+on_part n i from to ms ys back P holds = subst (λ zs. P (part_at n i ms) zs) (sym back.now_is) (subst (λ zs. P zs ys) (sym back.was) holds)
+
+pub lent_back : {X : Type 0} (n i from to : ℕ) (ms ys : List X) → Spanned i n (length ms) (Some (from, to)) → length ys ≡ length (between from to ms) → Back n i from to ms ys
+lent_back n i from to ms ys (starts, ends, within) size = record {
+  inside = le-leb (i * n + n) (length ms) (omega (arith, ends, within));
+  many = omega (arith, mid_len from to ms within, starts, ends);
+  only = record {
+    long = put_long from to ms ys order within size;
+    elsewhere = λ k m away. elim away [
+      | inl less ↦ put_below from to ms ys order within size k m (omega (arith, starts))
+      | inr more ↦ put_past from to ms ys order within size k m (omega (arith, ends))
+    ];
+  };
+  now_is = ap₂ (λ a e. between a e (put_mid from (to - from) ms ys)) (sym starts) (sym ends) ∙ put_part from to ms ys order within size;
+  was = ap₂ (λ a e. between a e ms) (sym starts) (sym ends);
+}
+  where
+    order : from ≤ to
+    order = omega arith
 
 pub same_only : {X : Type 0} (n i : ℕ) (ms : List X) → OnlyPart n i ms ms
 same_only n i ms = record { long = refl; elsewhere = λ k m away. refl }
 
--- a car whose part does not lie within the list has not enough memories
-pub no_part : {X : Type 0} (meaning : X → Meaning) (rows : List Row) (i : ℕ) (ms : List X) (h : List ℕ) → length ms < i * timed_rows rows + timed_rows rows → Means meaning rows (part_at (timed_rows rows) i ms) h → ⊥
-no_part meaning rows i ms h short means =
+-- a prepared part means the empty history
+pub car_ready : {X : Type 0} (meaning : X → Meaning) (admitted : ℕ → ℕ → Bool) (rows : List Row) (i : ℕ) (ms ms' : List X) → Chained rows → CarPrepared meaning admitted rows i ms ms'
+    → Admitted admitted rows → i * timed_rows rows + timed_rows rows ≤ length ms → Means meaning rows (part_at (timed_rows rows) i ms') []
+car_ready meaning admitted rows i ms ms' chained car admits enough =
     let n = timed_rows rows in
-    elim (cases_eq n 0) [
-      | inl none ↦ (let start : i * n ≡ 0 = ap (λ k. i * k) none ∙ mul-zero i in omega arith)
-      | inr some ↦ omega (arith, means.enough, length-take (i * n + n - i * n) (drop (i * n) ms), length-drop (i * n) ms)
-    ]
-
-module _ {X : Type 0} (meaning : X → Meaning) (rows : List Row) (i from to : ℕ) (ms ys : List X) (back : Back (timed_rows rows) i from to ms ys) where
-  pub cleared_back : ((h : List ℕ) → Means meaning rows (between from to ms) h → Means meaning rows ys []) → CarCleared meaning rows i ms (put_mid from (to - from) ms ys)
-  cleared_back told = record {
-    only = back.only;
-    means = λ h means. subst (λ xs. Means meaning rows xs []) (sym back.now_is) (told h (subst (λ xs. Means meaning rows xs h) back.was means));
-  }
-
-  pub fed_back : (c : Car) (w n : ℕ) (ns ns' : List Note) (reply : Fed) → length ns' ≡ length ns → drop reply.notes ns' ≡ drop reply.notes ns
-      → ((h : List ℕ) → Means meaning rows (between from to ms) h → Judged meaning rows h c w n (between from to ms) ns ys ns' reply)
-      → CarFed meaning rows i c w n ms ns (put_mid from (to - from) ms ys) ns' reply
-  fed_back c w n ns ns' reply places rest told = record {
-    only = back.only;
-    places = places;
-    rest = rest;
-    judged = λ h means.
-        subst (λ xs. Judged meaning rows h c w n (part_at (timed_rows rows) i ms) ns xs ns' reply) (sym back.now_is)
-        (subst (λ xs. Judged meaning rows h c w n xs ns ys ns' reply) (sym back.was) (told h (subst (λ xs. Means meaning rows xs h) back.was means)));
-  }
-
-  pub prepared_back : (admitted : ℕ → ℕ → Bool) → Chained rows → to ≡ i * timed_rows rows + timed_rows rows → from ≡ i * timed_rows rows → to ≤ length ms
-      → (j : ℕ) → length rows ≤ j → Readied meaning admitted rows j (between from to ms) ys → CarPrepared meaning admitted rows i ms (put_mid from (to - from) ms ys)
-  prepared_back admitted chained ends starts within j all r = record {
-    only = back.only;
-    ready = λ admits enough. subst (λ xs. Means meaning rows xs []) (sym back.now_is) (ready admits);
-  }
-    where
-      size : length (between from to ms) ≡ to - from
-      size = mid_len from to ms within
-
-      many : timed_rows rows ≤ length (between from to ms)
-      many = omega (arith, size)
-
-      ready : Admitted admitted rows → Means meaning rows ys []
-      ready admits = record {
-        enough = omega (arith, many, r.long);
-        outlooks = λ p m lt timed.
-            r.there admits many p m (omega arith) lt timed
-            ∙ sym (ap₂ clean (row_window rows chained p lt timed).0 (row_window rows chained p lt timed).1)
-            ∙ sym (outlook_fresh (formula_at (formulas rows) p));
-      }
+    record {
+      enough = omega (arith, enough, car.only.long, length-take (i * n + n - i * n) (drop (i * n) ms'), length-drop (i * n) ms');
+      outlooks = λ p m lt timed.
+          (car.whole (le-leb (i * n + n) (length ms) enough) p m lt timed).served (admits p lt timed)
+          ∙ sym (ap₂ clean (row_window rows chained p lt timed).0 (row_window rows chained p lt timed).1)
+          ∙ sym (outlook_fresh (formula_at (formulas rows) p));
+    }
 
 -- one car after another
 module _ {X : Type 0} (meaning : X → Meaning) (admitted : ℕ → ℕ → Bool) (rows : List Row) (ms : List X) where
   pub prepared_none : Prepared meaning admitted rows 0 ms ms
   prepared_none = record { long = refl; ready = λ _ _ i lt. absurd (omega arith); past = λ k m le. refl }
 
-  pub prepared_more : (n : ℕ) (xs ys : List X) → Prepared meaning admitted rows n ms xs → CarPrepared meaning admitted rows n xs ys → Prepared meaning admitted rows (n + 1) ms ys
-  prepared_more n xs ys p c = record {
+  pub prepared_more : Chained rows → (n : ℕ) (xs ys : List X) → Prepared meaning admitted rows n ms xs → CarPrepared meaning admitted rows n xs ys → Prepared meaning admitted rows (n + 1) ms ys
+  prepared_more chained n xs ys p c = record {
     long = c.only.long ∙ p.long;
     ready = λ admits enough i lt.
         let more : n * timed_rows rows + timed_rows rows ≤ length ms = omega (arith, enough, add-mul n 1 (timed_rows rows), one-mul (timed_rows rows)) in
         elim (cases_eq i n) [
-          | inl is ↦ subst (λ j. Means meaning rows (part_at (timed_rows rows) j ys) []) (sym is) (c.ready admits (omega (arith, p.long, more)))
+          | inl is ↦ subst (λ j. Means meaning rows (part_at (timed_rows rows) j ys) []) (sym is) (car_ready meaning admitted rows n xs ys chained c admits (omega (arith, p.long, more)))
           | inr not ↦ subst (λ zs. Means meaning rows zs []) (sym (other_part (timed_rows rows) n i xs ys c.only not)) (p.ready admits (omega (arith, more)) i (omega arith))
         ];
     past = λ k m le.

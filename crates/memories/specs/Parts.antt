@@ -1,5 +1,5 @@
 -- The memories of a watch: a part for each car, one after another. Assumes nothing.
-use Rattle.std.specs.Prelude.{◌≡◌, ℕ, ◌+◌, ◌*◌, ◌<◌, ◌≤◌, Bool, true, false, ◌⊎◌, List, [], length, drop, Some, None, Option, ◌≢◌, slice_index_or}
+use Rattle.std.specs.Prelude.{◌≡◌, ℕ, ◌+◌, ◌*◌, ◌<◌, ◌≤◌, Bool, true, false, ◌⊎◌, List, [], length, drop, Some, None, Option, ◌≢◌, nat_le, slice_index_or}
 use Rattle.std.specs.List.{between}
 use Rattle.mitl.specs.declared.Row.{Row}
 use Rattle.mitl.specs.Memory.{Meaning, clean}
@@ -24,10 +24,27 @@ pub record OnlyPart {X : Type 0} (n i : ℕ) (ms ms' : List X) : Type 0 where
 abbrev pub Admitted : (ℕ → ℕ → Bool) → List Row → Type 0
 Admitted admitted rows = (p : ℕ) → p < length rows → is_timed (row_at rows p) ≡ true → admitted (row_from (row_at rows p)) (row_to (row_at rows p)) ≡ true
 
--- only the memories of the car at place i may differ, and its part is ready for the rows
+-- a memory is prepared for a window: it has it with all marks no, or stays where the window is not admitted
+pub record Ready {X : Type 0} (meaning : X → Meaning) (admitted : ℕ → ℕ → Bool) (a b : ℕ) (x x' : X) : Type 0 where
+  pub served : admitted a b ≡ true → meaning x' ≡ clean a b
+  pub refused : admitted a b ≡ false → x' ≡ x
+
+-- the memories of the timed rows before place j are each prepared for their row
+abbrev pub ReadyRows : {X : Type 0} → (X → Meaning) → (ℕ → ℕ → Bool) → List Row → ℕ → List X → List X → Type 0
+ReadyRows {X} meaning admitted rows j xs ys =
+    (p : ℕ) (m : X) → p < j → is_timed (row_at rows p) ≡ true
+    → Ready meaning admitted (row_from (row_at rows p)) (row_to (row_at rows p)) (slice_index_or xs (timed_before rows p) m) (slice_index_or ys (timed_before rows p) m)
+
+-- the part of the car at place i, where each car has n memories, lies within a list of that length
+abbrev pub within : ℕ → ℕ → ℕ → Bool
+within n i long = nat_le (i * n + n) long
+
+-- Only the memories of the car at place i may differ: its part is prepared, if it lies within the list; else they stay
+-- too.
 pub record CarPrepared {X : Type 0} (meaning : X → Meaning) (admitted : ℕ → ℕ → Bool) (rows : List Row) (i : ℕ) (ms ms' : List X) : Type 0 where
   pub only : OnlyPart (timed_rows rows) i ms ms'
-  pub ready : Admitted admitted rows → i * timed_rows rows + timed_rows rows ≤ length ms → Means meaning rows (part_at (timed_rows rows) i ms') []
+  pub whole : within (timed_rows rows) i (length ms) ≡ true → ReadyRows meaning admitted rows (length rows) (part_at (timed_rows rows) i ms) (part_at (timed_rows rows) i ms')
+  pub short : within (timed_rows rows) i (length ms) ≡ false → ms' ≡ ms
 
 -- the memories of the first n cars are prepared for the rows, and the others stay
 pub record Prepared {X : Type 0} (meaning : X → Meaning) (admitted : ℕ → ℕ → Bool) (rows : List Row) (n : ℕ) (ms ms' : List X) : Type 0 where
@@ -45,17 +62,16 @@ abbrev pub Spanned : ℕ → ℕ → ℕ → Option (ℕ × ℕ) → Type 0
 Spanned i n long None = long < i * n + n
 Spanned i n long (Some (from, to)) = (from ≡ i * n) × (to ≡ i * n + n) × (to ≤ long)
 
--- the memories of the timed rows before place j are prepared for their rows, and the others stay
+-- the memories of the timed rows before place j are prepared for their rows, if there are as many, and the others stay
 pub record Readied {X : Type 0} (meaning : X → Meaning) (admitted : ℕ → ℕ → Bool) (rows : List Row) (j : ℕ) (ms ms' : List X) : Type 0 where
   pub long : length ms' ≡ length ms
-  pub there : Admitted admitted rows → timed_rows rows ≤ length ms → (p : ℕ) (m : X) → p < j → p < length rows → is_timed (row_at rows p) ≡ true
-      → meaning (slice_index_or ms' (timed_before rows p) m) ≡ clean (row_from (row_at rows p)) (row_to (row_at rows p))
+  pub there : timed_before rows j ≤ length ms → ReadyRows meaning admitted rows j ms ms'
   pub past : (k : ℕ) (m : X) → timed_before rows j ≤ k → slice_index_or ms' k m ≡ slice_index_or ms k m
 
--- the memory at place i is prepared for a window, if it is admitted and there is such a memory, and the others stay
+-- the memory at place i, if there is one, is prepared for a window, and the others stay
 pub record PreparedAt {X : Type 0} (meaning : X → Meaning) (admitted : ℕ → ℕ → Bool) (i a b : ℕ) (ms ms' : List X) : Type 0 where
   pub long : length ms' ≡ length ms
-  pub there : (m : X) → i < length ms → admitted a b ≡ true → meaning (slice_index_or ms' i m) ≡ clean a b
+  pub there : (m : X) → i < length ms → Ready meaning admitted a b (slice_index_or ms i m) (slice_index_or ms' i m)
   pub others : (k : ℕ) (m : X) → (k ≢ i) → slice_index_or ms' k m ≡ slice_index_or ms k m
 
 -- the car's part alone is cleared, and so means the empty history where it meant any

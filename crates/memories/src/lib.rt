@@ -9,13 +9,13 @@ ghost use Rattle.mitl.specs.Outlook.{row_from, row_to};
 ghost use Rattle.mitl.specs.Rows.{is_timed, timed_before, timed_rows};
 ghost use Rattle.plan.specs.Rows.{rows_of};
 ghost use Rattle.engine.specs.Means.{Means};
-ghost use Rattle.memories.specs.Exact.{AllReadied, CarEmptied, CarReadied, CarTold, ReadyAt, ReadyRows};
+ghost use Rattle.memories.specs.Exact.{AllReadied, CarEmptied, CarTold};
 ghost use Rattle.memories.specs.Parts.{CarCleared, CarFed, CarPrepared, Indexed, Prepared, PreparedAt, Readied, Spanned, WindowOf};
 
-use engine::{Fed, clear, feed};
+use engine::{Fed, Inputs, clear, feed};
 use mitl::Row;
 use plan::plan::Plan;
-use record::{Car, Note};
+use record::Note;
 use window::{Admission, WindowMemory};
 
 // What a memory shows: a mark, and how many stretches of yes there are.
@@ -35,86 +35,58 @@ fn window_of(row: Row) -> Option<(u32, u32)>
     }
 }
 
-// One more where the row is timed.
-fn past(row: Row, at: usize) -> usize
-    requires { at < 64 }
-    ensures { result ≡ (if is_timed row then 1 else 0) + at }
+// Where the part of the car at this place begins and ends, if the list is that long. Each caller lends the part itself:
+// handed in as a closure, a call that writes notes would leave nothing known of them where the list is too short.
+fn span(plan: &Plan, at: usize, len: usize) -> Option<(usize, usize)>
+    ensures { Spanned at (timed_rows (rows_of plan.now)) len result }
 {
-    match window_of(row) {
-        Some(_) => at + 1,
-        None => at,
-    }
-}
-
-// How many timed rows stand before this place.
-pub fn timed_before(plan: &Plan, end: usize) -> usize
-    ensures { result ≡ timed_before (rows_of plan.now) (min end plan.now.count) }
-{
-    let mut at = 0;
-    for k in 0..end.min(plan.count) {
-        at = past(plan.rows[k], at);
-    }
-    at
-}
-
-// Where the part of the car at this place begins and ends, if the list is that long.
-fn span(at: usize, timed: usize, len: usize) -> Option<(usize, usize)>
-    ensures { Spanned at timed len result }
-{
+    let timed = plan.timed();
     let from = at.checked_mul(timed)?;
     let to = from.checked_add(timed)?;
-    if to <= len { Some((from, to)) } else { None }
+    (to <= len).then_some((from, to))
 }
 
 // The memory at this place is prepared for a window.
 fn prepare_at<M: WindowMemory>(part: &mut [M], at: usize, a: u32, b: u32)
-    ensures prepared { PreparedAt M.meaning M.admitted at a b part.old part.new }
-    ensures exactly { ReadyAt M.meaning M.admitted at a b part.old part.new }
+    ensures { PreparedAt M.meaning M.admitted at a b part.old part.new }
 {
     if at < part.len() {
-        let mut m = part[at];
-        let _ = m.prepare(a, b);
-        part[at] = m;
+        let _ = part[at].prepare(a, b);
     }
 }
 
-// The memory at this place is prepared for a row, if it is timed.
-fn prepare_row<M: WindowMemory>(row: Row, part: &mut [M], at: usize)
+// The memory at this place is prepared for a row, if it is timed: the place past it.
+fn prepare_row<M: WindowMemory>(row: Row, part: &mut [M], at: usize) -> usize
+    requires { at < 64 }
+    ensures behind { result ≡ (if is_timed row then 1 else 0) + at }
     ensures timed { is_timed row ≡ true → PreparedAt M.meaning M.admitted at (row_from row) (row_to row) part.old part.new }
     ensures other { is_timed row ≡ false → part.new ≡ part.old }
-    ensures exactly { is_timed row ≡ true → ReadyAt M.meaning M.admitted at (row_from row) (row_to row) part.old part.new }
 {
-    if let Some((a, b)) = window_of(row) {
-        prepare_at(part, at, a, b);
+    match window_of(row) {
+        Some((a, b)) => {
+            prepare_at(part, at, a, b);
+            at + 1
+        }
+        None => at,
     }
 }
 
 // A memory for each timed row.
+#[tactic(auto, using(engine::proofs::Plans::given_early, crate::proofs::Readied::readied_none))]
 fn prepare_part<M: WindowMemory>(plan: &Plan, part: &mut [M])
-    ensures prepared { Readied M.meaning M.admitted (rows_of plan.now) plan.now.count part.old part.new }
-    ensures exactly { timed_rows (rows_of plan.now) ≤ length part.old → ReadyRows M.meaning M.admitted (rows_of plan.now) (length (rows_of plan.now)) part.old part.new }
+    ensures { Readied M.meaning M.admitted (rows_of plan.now) (length (rows_of plan.now)) part.old part.new }
 {
     let mut at = 0;
-    for k in 0..plan.count {
-        let row = plan.rows[k];
-        prepare_row(row, part, at);
-        at = past(row, at);
+    for row in plan.chain() {
+        at = prepare_row(*row, part, at);
     }
-}
-
-// How many timed rows the plan has.
-pub fn timed(plan: &Plan) -> usize
-    ensures { result ≡ timed_rows (rows_of plan.now) }
-{
-    timed_before(plan, 64)
 }
 
 // The part of the car at this place is prepared.
 fn prepare_car<M: WindowMemory>(plan: &Plan, at: usize, memories: &mut [M])
-    ensures prepared { CarPrepared M.meaning M.admitted (rows_of plan.now) at memories.old memories.new }
-    ensures exactly { CarReadied M.meaning M.admitted (rows_of plan.now) at memories.old memories.new }
+    ensures { CarPrepared M.meaning M.admitted (rows_of plan.now) at memories.old memories.new }
 {
-    if let Some((from, to)) = span(at, timed(plan), memories.len()) {
+    if let Some((from, to)) = span(plan, at, memories.len()) {
         prepare_part(plan, &mut memories[from..to]);
     }
 }
@@ -124,7 +96,7 @@ pub fn clear_car<M: WindowMemory>(plan: &Plan, at: usize, memories: &mut [M])
     ensures cleared { CarCleared M.meaning (rows_of plan.now) at memories.old memories.new }
     ensures exactly { CarEmptied M.meaning (rows_of plan.now) at memories.old memories.new }
 {
-    if let Some((from, to)) = span(at, timed(plan), memories.len()) {
+    if let Some((from, to)) = span(plan, at, memories.len()) {
         clear(plan, &mut memories[from..to]);
     }
 }
@@ -133,26 +105,26 @@ pub fn clear_car<M: WindowMemory>(plan: &Plan, at: usize, memories: &mut [M])
 pub fn feed_car<M: WindowMemory>(
     plan: &Plan,
     at: usize,
-    car: Car,
-    word: u32,
-    ticks: u32,
+    inputs: Inputs,
     memories: &mut [M],
     notes: &mut [Note],
 ) -> Fed
-    ensures fed { CarFed M.meaning (rows_of plan.now) at car word ticks memories.old notes.old memories.new notes.new result }
-    ensures exactly { CarTold M.meaning (rows_of plan.now) at car word ticks memories.old notes.old memories.new notes.new result }
+    ensures fed { CarFed M.meaning (rows_of plan.now) at inputs.car inputs.word inputs.ticks memories.old notes.old memories.new notes.new result }
+    ensures exactly { CarTold M.meaning (rows_of plan.now) at inputs.car inputs.word inputs.ticks memories.old notes.old memories.new notes.new result }
 {
-    match span(at, timed(plan), memories.len()) {
-        Some((from, to)) => feed(plan, car, word, ticks, &mut memories[from..to], notes),
+    match span(plan, at, memories.len()) {
+        Some((from, to)) => feed(plan, inputs, &mut memories[from..to], notes),
         None => Fed { notes: 0, ticks: 0 },
     }
 }
 
 // The parts of the first cars are prepared.
+#[tactic(auto, using(crate::proofs::Lent::prepared_none, crate::proofs::Exact::all_none))]
 fn prepare_first<M: WindowMemory>(plan: &Plan, cars: usize, memories: &mut [M])
     ensures prepared { Prepared M.meaning M.admitted (rows_of plan.now) cars memories.old memories.new }
     ensures exactly { AllReadied M.meaning M.admitted (rows_of plan.now) cars memories.old memories.new }
 {
+    // by places, since a part may be empty or lie past the list's end: chunks of the list are neither
     for i in 0..cars {
         prepare_car(plan, i, memories);
     }
@@ -180,11 +152,7 @@ pub fn show<M: WindowMemory>(memory: M, d: u32) -> Shown
 pub fn index_of(plan: &Plan, at: usize, place: usize, len: usize) -> Option<usize>
     ensures { Indexed (rows_of plan.now) at (min place plan.now.count) len result }
 {
-    let (from, to) = span(at, timed(plan), len)?;
-    let before = timed_before(plan, place);
-    if before < len - from {
-        Some(from + before)
-    } else {
-        None
-    }
+    let (from, _) = span(plan, at, len)?;
+    from.checked_add(plan.timed_before(place))
+        .filter(|index| *index < len)
 }

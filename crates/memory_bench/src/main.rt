@@ -46,33 +46,19 @@ fn main(rt: HostRuntime) -> io::Result<()> {
 }
 
 fn is_asked(rt: &HostRuntime) -> io::Result<bool> {
-    for word in env::args(rt)?.skip(1) {
-        if word.as_str() == "run" {
-            return Ok(true);
-        }
-    }
-    Ok(false)
+    Ok(env::args(rt)?.skip(1).any(|word| word.as_str() == "run"))
 }
 
 fn table(rt: &HostRuntime) -> io::Result<()> {
     println!(rt; "| kind | window | take | run | look | count | sum |")?;
     println!(rt; "|---|---|---|---|---|---|---|")?;
-    pairs_row(rt, 0, 64)?;
-    pairs_row(rt, 95, 96)?;
-    pairs_row(rt, 0, 864_000)?;
-    bits_row(rt, 0, 64)?;
-    bits_row(rt, 95, 96)?;
-    bits_row(rt, 0, 1_000)
-}
-
-fn pairs_row(rt: &HostRuntime, a: u32, b: u32) -> io::Result<()> {
-    let mut memories = [ClockPairs::new(); MEMORIES];
-    row(rt, "clock pairs", &mut memories, a, b)
-}
-
-fn bits_row(rt: &HostRuntime, a: u32, b: u32) -> io::Result<()> {
-    let mut memories = [BitMarks::new(); MEMORIES];
-    row(rt, "bits", &mut memories, a, b)
+    for (a, b) in [(0, 64), (95, 96), (0, 864_000)] {
+        row(rt, "clock pairs", &mut [ClockPairs::new(); MEMORIES], a, b)?;
+    }
+    for (a, b) in [(0, 64), (95, 96), (0, 1_000)] {
+        row(rt, "bits", &mut [BitMarks::new(); MEMORIES], a, b)?;
+    }
+    Ok(())
 }
 
 fn row<M: WindowMemory>(
@@ -98,29 +84,27 @@ fn row<M: WindowMemory>(
 }
 
 fn measured<M: WindowMemory>(rt: &HostRuntime, memories: &mut [M], b: u32) -> io::Result<Times> {
-    let start = Instant::now(rt)?;
-    let mut sum = looks(memories);
-    let look = per_call(rt, start)?;
-    let start = Instant::now(rt)?;
-    sum ^= runs(memories);
-    let run = per_call(rt, start)?;
-    let start = Instant::now(rt)?;
-    sum ^= counts(memories);
-    let count = per_call(rt, start)?;
-    let start = Instant::now(rt)?;
-    takes(memories, b);
-    let take = per_call(rt, start)?;
+    let (look, looked) = timed(rt, || looks(memories))?;
+    let (run, ran) = timed(rt, || runs(memories))?;
+    let (count, counted) = timed(rt, || counts(memories))?;
+    let (take, _) = timed(rt, || takes(memories, b))?;
     Ok(Times {
         take,
         run,
         look,
         count,
-        sum,
+        sum: looked ^ ran ^ counted,
     })
 }
 
-fn per_call(rt: &HostRuntime, start: Instant) -> io::Result<u128> {
-    Ok(start.elapsed(rt)?.as_nanos() / (u128::from(ROUNDS) * MEMORIES as u128))
+// The nanoseconds for one of the calls of all rounds, and what they gave.
+fn timed<T: Drop, F: FnOnce() -> T>(rt: &HostRuntime, calls: F) -> io::Result<(u128, T)>
+    requires { F.IsAlwaysCallable calls }
+{
+    let start = Instant::now(rt)?;
+    let given = calls();
+    let nanoseconds = start.elapsed(rt)?.as_nanos();
+    Ok((nanoseconds / (u128::from(ROUNDS) * MEMORIES as u128), given))
 }
 
 // Memories of this window that have taken ticks already, each a few more.
@@ -129,10 +113,8 @@ fn prepare<M: WindowMemory>(memories: &mut [M], a: u32, b: u32) {
         m.prepare(a, b);
     }
     takes(memories, b);
-    let mut n = 0u32;
-    for m in memories.iter_mut() {
+    for (m, n) in memories.iter_mut().zip(0..) {
         m.take(n % 2 == 0, n);
-        n = n.wrapping_add(1);
     }
 }
 

@@ -1,5 +1,5 @@
 -- The one reply to each question for a share. Assumes nothing.
-use Rattle.std.specs.Prelude.{◌≡◌, ℕ, ◌^◌, ◌<◌, ◌≤◌, List, [], ◌∷◌, length, Some, None, Ok, Err, Result, ◌==◌, nat_lt}
+use Rattle.std.specs.Prelude.{◌≡◌, ℕ, ◌<◌, ◌≤◌, List, [], ◌∷◌, length, Some, None, Ok, Err, Result, ◌==◌, nat_lt}
 use Rattle.refusal.specs.declared.Refusal.{Refusal}
 use Rattle.refusal.specs.Faults.{Fault, fault, refusal, first_fault}
 use Rattle.record.specs.declared.Car.{Car}
@@ -23,18 +23,6 @@ note_faults ns c = fault (nat_lt 4096 (length ns)) 21 1 ∷ fault (car_ticks ns 
 -- what can be wrong where a rule is named: the rule first
 abbrev pub rule_faults : List Note → Car → ℕ → List Fault
 rule_faults ns c i = fault (nat_lt 15 i) 21 0 ∷ note_faults ns c
-
--- notes that are not too many, with n ticks of the car, which are some
-pub record Summed (ns : List Note) (c : Car) (n : ℕ) : Type 0 where
-  pub few : length ns ≤ 4096
-  pub sum : n ≡ car_ticks ns c
-  pub some : 0 < n
-  pub bound : n < 2 ^ 44
-
--- The car's ticks if no fault holds, else the first fault.
-abbrev pub Whole : List Note → Car → Result ℕ ShareFault → Type 0
-Whole ns c (Ok n) = (first_fault (note_faults ns c) ≡ None) × Summed ns c n
-Whole ns c (Err e) = first_fault (note_faults ns c) ≡ Some (refusal_of e)
 
 -- the rule's ticks, all the car's ticks and the figure
 pub record Parted (ns : List Note) (c : Car) (i : ℕ) (s : Share) : Type 0 where

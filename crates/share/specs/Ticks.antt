@@ -1,10 +1,8 @@
 -- A car's ticks in a list of notes, and a rule's share of them. Assumes nothing.
-use Rattle.std.specs.Prelude.{ℕ, ◌*◌, ◌/◌, ◌%◌, ◌^◌, Bool, cond, ◌&&◌, List, sum_by, ◌==◌}
+use Rattle.std.specs.Prelude.{ℕ, ◌*◌, ◌/◌, ◌%◌, ◌^◌, Bool, ◌&&◌, List, filter, sum_by, ◌==◌}
 use Rattle.record.specs.declared.Car.{Car}
 use Rattle.record.specs.declared.Note.{Note}
-
-abbrev pub same_car : Car → Car → Bool
-same_car c d = c.number == d.number
+use Rattle.record.specs.Cars.{same_car}
 
 -- bit i of a word is 1
 abbrev pub bit : ℕ → ℕ → Bool
@@ -20,7 +18,7 @@ yes_of c i n = of_car c n && bit i n.word
 
 -- the ticks of the notes that count
 abbrev pub ticks_where : (Note → Bool) → List Note → ℕ
-ticks_where counts ns = sum_by (λ n. cond (counts n) n.ticks 0) ns
+ticks_where counts ns = sum_by (λ n. n.ticks) (filter counts ns)
 
 abbrev pub car_ticks : List Note → Car → ℕ
 car_ticks ns c = ticks_where (of_car c) ns

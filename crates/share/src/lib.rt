@@ -2,9 +2,11 @@
 
 #![tactic(auto)]
 
-ghost use Rattle.std.specs.Prelude.{◌≡◌, ◌+◌, ◌*◌, ◌^◌, ◌<◌, ◌≤◌, length};
-ghost use Rattle.share.specs.Ticks.{of_car, yes_of, car_ticks, rule_ticks, per_mille_lem, figure};
-ghost use Rattle.share.specs.Replies.{refusal_of, Summed, Whole, Parted, Shared, Busiest, Busier, Busied};
+ghost use Rattle.std.specs.Prelude.{◌≡◌, ◌+◌, ◌*◌, ◌^◌, ◌<◌, ◌≤◌, length, Bool};
+ghost use Rattle.std.specs.Fn.{FnReturnsAt};
+ghost use Rattle.record.specs.declared.Note.{Note};
+ghost use Rattle.share.specs.Ticks.{yes_of, ticks_where, car_ticks, per_mille_lem, figure};
+ghost use Rattle.share.specs.Replies.{refusal_of, Parted, Shared, Busiest, Busier, Busied};
 
 use record::{Car, Note};
 use refusal::Refusal;
@@ -54,49 +56,26 @@ impl From<ShareFault> for Refusal {
     }
 }
 
-// Whether a note is of this car.
-fn is_of(note: &Note, car: Car) -> bool
-    ensures { result ≡ of_car car note.now }
-{
-    note.car == car
-}
-
 // Whether a note is of this car and the rule was yes.
 fn is_yes(note: &Note, car: Car, rule: u8) -> bool
     requires { rule < 16 }
     ensures { result ≡ yes_of car rule note.now }
 {
-    is_of(note, car) && (note.word >> rule) % 2 == 1
+    note.car == car && (note.word >> rule) % 2 == 1
 }
 
-// All the car's ticks.
-fn car_time(notes: &[Note], car: Car) -> u64
-    requires { length notes.now ≤ 4096 }
-    ensures value { result ≡ car_ticks notes.now car }
+// The ticks of the notes that count.
+fn ticks_where<F: Fn(&Note) -> bool>(notes: &[Note], counts: F) -> u64
+    requires callable { F.IsAlwaysCallable counts }
+    requires few { length notes.now ≤ 4096 }
+    ensures value { (test : Note → Bool) → ((n : Note) (b : Bool) → FnReturnsAt F.Fn counts n b → b ≡ test n) → result ≡ ticks_where test notes.now }
     ensures bound { result < 2 ^ 44 }
 {
-    let mut ticks = 0;
-    for note in notes {
-        if is_of(note, car) {
-            ticks += u64::from(note.ticks);
-        }
-    }
-    ticks
-}
-
-// The car's ticks at which the rule was yes.
-fn rule_time(notes: &[Note], car: Car, rule: u8) -> u64
-    requires { (length notes.now ≤ 4096) × (rule < 16) }
-    ensures value { result ≡ rule_ticks notes.now car rule }
-    ensures bound { result ≤ car_ticks notes.now car }
-{
-    let mut ticks = 0;
-    for note in notes {
-        if is_yes(note, car, rule) {
-            ticks += u64::from(note.ticks);
-        }
-    }
-    ticks
+    notes
+        .iter()
+        .filter(|note| counts(note))
+        .map(|note| u64::from(note.ticks))
+        .sum()
 }
 
 // A part of a whole in thousandths.
@@ -107,30 +86,67 @@ fn per_mille(part: u64, whole: u64) -> u64
     part * 1000 / whole
 }
 
-// All the car's ticks, of notes that are not too many and have some.
-fn whole_time(notes: &[Note], car: Car) -> Result<u64, ShareFault>
-    ensures { Whole notes.now car result }
-{
-    if notes.len() > MOST_NOTES {
-        return Err(ShareFault::TooManyNotes);
-    }
-    let all = car_time(notes, car);
-    if all == 0 {
-        return Err(ShareFault::NoTick);
-    }
-    Ok(all)
+// A car's time: all its ticks in notes that are not too many, which are some.
+#[derive(Clone, Copy)]
+struct CarTime<'a> {
+    notes: &'a [Note],
+    car: Car,
+    all: u64,
+    ghost few: { length notes.now ≤ 4096 },
+    ghost sum: { all ≡ car_ticks notes.now car },
+    ghost some: { 0 < all },
+    ghost bound: { all < 2 ^ 44 },
 }
 
-// The rule's share, of a whole that is all the car's ticks.
-fn part_of(notes: &[Note], car: Car, rule: u8, all: u64) -> Share
-    requires { Summed notes.now car all × (rule < 16) }
-    ensures { Parted notes.now car rule result }
-{
-    let with_rule = rule_time(notes, car, rule);
-    Share {
-        with_rule,
-        all,
-        per_mille: per_mille(with_rule, all) as u32,
+impl<'a> CarTime<'a> {
+    ghost use Rattle.share.specs.Times.{Whole};
+
+    // The car's time by these notes.
+    fn of(notes: &'a [Note], car: Car) -> Result<CarTime<'a>, ShareFault>
+        ensures { Whole notes.now car result }
+    {
+        if notes.len() > MOST_NOTES {
+            return Err(ShareFault::TooManyNotes);
+        }
+        let all = ticks_where(notes, |note| note.car == car);
+        if all == 0 {
+            return Err(ShareFault::NoTick);
+        }
+        Ok(CarTime { notes, car, all })
+    }
+
+    // The rule's share of the time.
+    fn share(&self, rule: u8) -> Share
+        requires { rule < 16 }
+        ensures { Parted self.now.notes.now self.now.car rule result }
+    {
+        let with_rule = ticks_where(self.notes, |note| is_yes(note, self.car, rule));
+        Share {
+            with_rule,
+            all: self.all,
+            per_mille: per_mille(with_rule, self.all) as u32,
+        }
+    }
+
+    // The rule with its figure.
+    fn figure_of(&self, rule: u8) -> BusiestRule
+        requires { rule < 16 }
+        ensures { (result.rule ≡ rule) × (result.per_mille ≡ figure self.now.notes.now self.now.car rule) }
+    {
+        BusiestRule {
+            rule,
+            per_mille: self.share(rule).per_mille,
+        }
+    }
+
+    // The lowest of the rules that have the greatest figure.
+    fn busiest(&self) -> BusiestRule
+        ensures { Busiest self.now.notes.now self.now.car 16 result }
+    {
+        (1..RULES).fold(
+            self.figure_of(0),
+            |best, rule| best.or(self.figure_of(rule)),
+        )
     }
 }
 
@@ -141,22 +157,10 @@ pub fn share_of(notes: &[Note], car: Car, rule: u8) -> Result<Share, ShareFault>
     if rule >= RULES {
         return Err(ShareFault::RuleAbove);
     }
-    let all = whole_time(notes, car)?;
-    Ok(part_of(notes, car, rule, all))
+    Ok(CarTime::of(notes, car)?.share(rule))
 }
 
 impl BusiestRule {
-    // A rule with its figure.
-    fn of(notes: &[Note], car: Car, rule: u8, all: u64) -> BusiestRule
-        requires { Summed notes.now car all × (rule < 16) }
-        ensures { (result.rule ≡ rule) × (result.per_mille ≡ figure notes.now car rule) }
-    {
-        BusiestRule {
-            rule,
-            per_mille: part_of(notes, car, rule, all).per_mille,
-        }
-    }
-
     // The other rule, if its figure is greater.
     fn or(self, other: BusiestRule) -> BusiestRule
         ensures { Busier self other result }
@@ -169,24 +173,11 @@ impl BusiestRule {
     }
 }
 
-// The lowest of the rules that have the greatest figure.
-fn busiest_of(notes: &[Note], car: Car, all: u64) -> BusiestRule
-    requires { Summed notes.now car all }
-    ensures { Busiest notes.now car 16 result }
-{
-    let mut best = BusiestRule::of(notes, car, 0, all);
-    for rule in 1..RULES {
-        best = best.or(BusiestRule::of(notes, car, rule, all));
-    }
-    best
-}
-
 // The rule with the greatest share of the car's time, and the lowest of several.
 pub fn busiest(notes: &[Note], car: Car) -> Result<BusiestRule, ShareFault>
     ensures { Busied notes.now car result }
 {
-    let all = whole_time(notes, car)?;
-    Ok(busiest_of(notes, car, all))
+    Ok(CarTime::of(notes, car)?.busiest())
 }
 
 #[cfg(test)]

@@ -9,7 +9,7 @@ mod table;
 
 use record::Note;
 use refusal::Refusal;
-use sheet::Piece;
+use sheet::{Damage, Piece};
 use std::io;
 use std::io::Read;
 use table::{Head, Line};
@@ -19,12 +19,12 @@ fn print_damage(rt: &HostRuntime, pieces: &[Piece]) -> io::Result<()> {
     for (i, piece) in pieces.iter().enumerate() {
         let number = i + 1;
         match *piece {
-            Piece::DamagedLine => println!(rt; "damaged line {number}")?,
-            Piece::DamagedRecord(fault) => {
+            Err(Damage::BadLine) => println!(rt; "damaged line {number}")?,
+            Err(Damage::BadRecord(fault)) => {
                 let refusal = Refusal::from(fault);
                 println!(rt; "damaged record {number} X {refusal}")?;
             }
-            _ => {}
+            Ok(_) => {}
         }
     }
     Ok(())

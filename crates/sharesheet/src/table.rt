@@ -3,6 +3,7 @@ ghost use Rattle.sharesheet.specs.Lines.{Lined};
 
 use record::{Car, Note};
 use refusal::Refusal;
+use share::ShareFault;
 use sheet::Row;
 use std::fmt;
 
@@ -20,11 +21,11 @@ impl fmt::Display for Head {
     }
 }
 
-// A car's row, or why it has none.
+// A car and its row, or why it has none.
 #[derive(Clone, Copy)]
-pub enum Line {
-    Shares(Row),
-    Refused(Car, Refusal),
+pub struct Line {
+    car: Car,
+    row: Result<Row, ShareFault>,
 }
 
 impl Line {
@@ -32,19 +33,20 @@ impl Line {
     pub fn of(notes: &[Note], car: Car) -> Line
         ensures { Lined notes.now car result }
     {
-        match sheet::row_of(notes, car) {
-            Ok(row) => Line::Shares(row),
-            Err(fault) => Line::Refused(car, fault.into()),
+        Line {
+            car,
+            row: sheet::row_of(notes, car),
         }
     }
 }
 
 impl fmt::Display for Line {
     fn fmt<W: fmt::Write>(&self, f: &mut fmt::Formatter<W>) -> fmt::Result {
-        match self {
-            Line::Shares(row) => write_row(row, f),
-            Line::Refused(car, refusal) => {
-                let number = car.number;
+        match self.row {
+            Ok(row) => write_row(&row, f),
+            Err(fault) => {
+                let number = self.car.number;
+                let refusal = Refusal::from(fault);
                 write!(f, "{number:>5} X {refusal}")
             }
         }

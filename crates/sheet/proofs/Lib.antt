@@ -1,6 +1,5 @@
-pub mod Sent
 pub mod Kept
 pub mod Lowest
 pub mod Spaces
 pub mod Numbers
-pub mod Grown
+pub mod Collected

@@ -1,9 +1,9 @@
 -- Numbers in a line: they have no space, so that a line is cut in one way. Assumes nothing.
-use Rattle.std.proofs.Common.{◌≡◌, ℕ, zero, suc, ◌^◌, ◌<◌, List, [], ◌∷◌, ◌++◌, length, get_or, drop, Some, None, Ok, Err, IsUtf8, Result, sym, refl, ap, ◌∙◌, subst, ⊎_elim, arith, lit<, length-drop}
+use Rattle.std.proofs.Common.{◌≡◌, ℕ, zero, suc, ◌^◌, ◌<◌, List, [], ◌∷◌, ◌++◌, length, get_or, drop, Some, None, Ok, Err, IsUtf8, Result, MatchResult, sym, refl, ap, ◌∙◌, subst, ⊎_elim, arith, length-drop}
 use Rattle.std.specs.Result.{result_ok}
-use Rattle.std.specs.List.{AllByRecursion}
-use Rattle.std.proofs.ByRecursion.{All-append, All-from_get_or, IsAscii-from_all}
-use Rattle.std.proofs.lemmas.Str.{IsUtf8-from_ascii}
+use Rattle.std.specs.Str.{IsAscii}
+use Rattle.std.proofs.lemmas.Str.Ascii.{IsAscii-from_reads, IsAscii-cons}
+use Rattle.std.proofs.lemmas.Str.{IsUtf8-from_ascii, IsAscii-append}
 use Rattle.std.specs.Str.Parse.{IsNumeral, without_leading_plus, ParsesUnsigned}
 use Rattle.std.proofs.lemmas.List.{get_or-drop}
 use Rattle.std.proofs.lemmas.Str.Parse.{digit_at, without_leading_plus_none, without_leading_plus_plus}
@@ -34,18 +34,24 @@ pub spaceless : (s : List ℕ) → IsNumeral 10 (without_leading_plus s) → Spa
 unfolding Plain
 spaceless s h i l e = let k = plain s h i l in omega (arith, k.0, e)
 
-low : (s : List ℕ) → IsNumeral 10 (without_leading_plus s) → AllByRecursion (λ b. b < 128) s
+low : (s : List ℕ) → IsNumeral 10 (without_leading_plus s) → IsAscii s
 unfolding Plain
-low s h = All-from_get_or (λ b. b < 128) s 0 (λ i l. (plain s h i l).1)
+low s h = IsAscii-from_reads s (length s) (omega arith) (λ k l. (plain s h k l).1)
 
 -- the line of a note is text
 pub line_text : (n : Note) (line : List ℕ) → Line n line → IsUtf8 line
 line_text n line l =
-    let low-all = λ (b : ℕ). b < 128 in
-    let c = low l.third l.ticks_is.0 in
-    let b = All-append low-all l.second (32 ∷ l.third) (low l.second l.word_is.0) (lit< tt, c) in
-    let a = All-append low-all l.first (32 ∷ (l.second ++ (32 ∷ l.third))) (low l.first l.car_is.0) (lit< tt, b) in
-    IsUtf8-from_ascii line (IsAscii-from_all line (subst (AllByRecursion low-all) (sym l.laid_out) (lit< tt, (lit< tt, a))))
+    let second = l.second ++ (32 ∷ l.third) in
+    let first = l.first ++ (32 ∷ second) in
+    let c = IsAscii-cons 32 l.third (omega arith) (low l.third l.ticks_is.0) in
+    let b = IsAscii-cons 32 second (omega arith) (IsAscii-append l.second (32 ∷ l.third) (low l.second l.word_is.0) c) in
+    let a = IsAscii-cons 32 first (omega arith) (IsAscii-append l.first (32 ∷ second) (low l.first l.car_is.0) b) in
+    IsUtf8-from_ascii line (subst IsAscii (sym l.laid_out) (IsAscii-cons 86 (32 ∷ first) (omega arith) a))
+
+-- bytes that are not text
+pub not_text : {A E : Type 0} (line : List ℕ) (P : A → Type 0) (Q : E → Type 0) (r : Result A E) → None ≡ result_ok r → MatchResult r P (λ e. ¬ IsUtf8 line × Q e) → IsUtf8 line → ⊥
+not_text line P Q (Ok x) none h = absurd (cc)
+not_text line P Q (Err e) none h = h.0
 
 later : (a : ℕ) (s : List ℕ) → Spaceless (a ∷ s) → Spaceless s
 later a s none i l e = none (suc i) (omega arith) e
@@ -88,9 +94,9 @@ module _ (line a b d : List ℕ) (out : line ≡ laid a b d) (p : Spaceless a) (
 
 -- what is a number that fits is parsed
 pub not_parsed : {E : Type 0} (k : ℕ) (text : List ℕ) (r : Result ℕ E) → ParsesUnsigned k 10 text r → None ≡ result_ok r → (m : ℕ) → m < 2 ^ k → Number m text → ⊥
-not_parsed k text (Ok x) h e m lt nr = let z : ◌≡◌ {A = ℕ} 0 1 = cc in omega arith
+not_parsed k text (Ok x) h e m lt nr = absurd (cc)
 not_parsed k text (Err x) h e m lt nr = h (nr.0, subst (λ v. v < 2 ^ k) nr.1 lt)
 
 pub parsed : {E : Type 0} (k : ℕ) (text : List ℕ) (r : Result ℕ E) → ParsesUnsigned k 10 text r → (x : ℕ) → Some x ≡ result_ok r → (m : ℕ) → Number m text → m ≡ x
 parsed k text (Ok y) h x e m nr = let f : x ≡ y = cc in nr.1 ∙ sym h.1 ∙ sym f
-parsed k text (Err y) h x e m nr = let z : ◌≡◌ {A = ℕ} 0 1 = cc in absurd (omega arith)
+parsed k text (Err y) h x e m nr = absurd (cc)

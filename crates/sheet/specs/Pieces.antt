@@ -1,33 +1,34 @@
 -- What a line or a record of the input tells of. Assumes nothing.
-use Rattle.std.specs.Prelude.{◌≡◌, ℕ, ◌^◌, ◌<◌, Bool, true, false, ◌||◌, ◌⊎◌, List, [], ◌∷◌, ◌++◌, length, take, drop, Some, None, MatchBool, Option, ◌==◌, ◌≢◌, slice_index}
+use Rattle.std.specs.Prelude.{◌≡◌, ℕ, ◌^◌, ◌<◌, Bool, true, false, ◌||◌, ◌⊎◌, List, [], ◌∷◌, ◌++◌, length, take, drop, Some, None, Ok, Err, MatchBool, Option, Result, ◌==◌, ◌≢◌, slice_index}
 use Rattle.std.specs.Borrow.{Bor}
-use Rattle.std.specs.List.{flat_map}
+use Rattle.std.specs.List.{filter_map}
 use Rattle.std.specs.Str.Parse.{IsNumeral, digits_value, without_leading_plus}
 use Rattle.refusal.specs.Faults.{first_fault}
 use Rattle.record.specs.declared.Record.{Record}
 use Rattle.record.specs.declared.Note.{Note}
 use Rattle.record.specs.Layout.{fields_at, reading_faults, is_V}
 use Rattle.record.specs.Replies.{refusal_of}
-use Rattle.sheet.specs.declared.Piece.{Piece}
-use Rattle.sheet.specs.declared.Piece.TheVariants.{Verdict, Other, DamagedLine, DamagedRecord}
+use Rattle.sheet.specs.declared.Damage.{Damage}
+use Rattle.sheet.specs.declared.Damage.TheVariants.{BadLine, BadRecord}
 
 -- the note of a verdict record
 abbrev pub note_of : Record → Note
 note_of r = record { car = r.car; word = r.word; ticks = r.ticks }
 
+-- what a piece of the input tells of: a note, or none, or what is damaged
+abbrev pub Found : Type 0
+Found = Result (Option Note) Damage
+
 -- A verdict record tells of its note, and any other of none.
-abbrev pub OfRecord : Record → Piece → Type 0
-OfRecord r (Verdict n) = (is_V r.letter ≡ true) × (n ≡ note_of r)
-OfRecord r Other = is_V r.letter ≡ false
-OfRecord r DamagedLine = ⊥
-OfRecord r (DamagedRecord e) = ⊥
+abbrev pub OfRecord : Record → Option Note → Type 0
+OfRecord r (Some n) = (is_V r.letter ≡ true) × (n ≡ note_of r)
+OfRecord r None = is_V r.letter ≡ false
 
 -- Bytes that are a record tell what it tells of; else the refusal stands.
-abbrev pub RecordPiece : List ℕ → Piece → Type 0
-RecordPiece bytes (Verdict n) = (first_fault (reading_faults bytes) ≡ None) × OfRecord (fields_at bytes) (Verdict n)
-RecordPiece bytes Other = (first_fault (reading_faults bytes) ≡ None) × OfRecord (fields_at bytes) Other
-RecordPiece bytes DamagedLine = ⊥
-RecordPiece bytes (DamagedRecord e) = first_fault (reading_faults bytes) ≡ Some (refusal_of e)
+abbrev pub RecordPiece : List ℕ → Found → Type 0
+RecordPiece bytes (Ok told) = (first_fault (reading_faults bytes) ≡ None) × OfRecord (fields_at bytes) told
+RecordPiece bytes (Err BadLine) = ⊥
+RecordPiece bytes (Err (BadRecord e)) = first_fault (reading_faults bytes) ≡ Some (refusal_of e)
 
 -- a number as it is written: decimal digits, after a plus sign or none
 abbrev pub Number : ℕ → List ℕ → Type 0
@@ -78,11 +79,15 @@ passed_over [] = true
 passed_over (b ∷ bs) = b == 84 || (b == 75 || b == 88)
 
 -- A line that is not passed over tells of its note, or is damaged where it is no note's line.
-abbrev pub LinePiece : List ℕ → Piece → Type 0
-LinePiece line (Verdict n) = (passed_over line ≡ false) × Told line (Some n)
-LinePiece line Other = passed_over line ≡ true
-LinePiece line DamagedLine = (passed_over line ≡ false) × Told line None
-LinePiece line (DamagedRecord e) = ⊥
+abbrev pub LinePiece : List ℕ → Found → Type 0
+LinePiece line (Ok (Some n)) = (passed_over line ≡ false) × Told line (Some n)
+LinePiece line (Ok None) = passed_over line ≡ true
+LinePiece line (Err BadLine) = (passed_over line ≡ false) × Told line None
+LinePiece line (Err (BadRecord e)) = ⊥
+
+-- a line without its line feed, if it ends in one
+abbrev pub Unended : List ℕ → List ℕ → Type 0
+Unended line text = (line ≡ text ++ (10 ∷ [])) ⊎ ((line ≡ text) × ((s : List ℕ) → line ≢ s ++ (10 ∷ [])))
 
 -- a text up to its first line feed, and what comes after
 pub record FirstLine (bytes line rest : List ℕ) : Type 0 where
@@ -90,12 +95,12 @@ pub record FirstLine (bytes line rest : List ℕ) : Type 0 where
   pub cut : (bytes ≡ line ++ (10 ∷ rest)) ⊎ ((bytes ≡ line) × (rest ≡ []))
 
 -- the pieces of a text, line by line
-abbrev pub Lines : List ℕ → List Piece → Type 0
+abbrev pub Lines : List ℕ → List Found → Type 0
 Lines bytes [] = bytes ≡ []
 Lines bytes (p ∷ ps) = (0 < length bytes) × ((line : List ℕ) × (rest : List ℕ) × FirstLine bytes line rest × LinePiece line p × Lines rest ps)
 
 -- the pieces of records, twelve bytes by twelve, and fewer at the end
-abbrev pub Records : List ℕ → List Piece → Type 0
+abbrev pub Records : List ℕ → List Found → Type 0
 Records bytes [] = bytes ≡ []
 Records bytes (p ∷ ps) = (0 < length bytes) × RecordPiece (take 12 bytes) p × Records (drop 12 bytes) ps
 
@@ -106,15 +111,14 @@ second_zero (a ∷ []) = false
 second_zero (a ∷ b ∷ bytes) = b == 0
 
 -- An input whose second byte is zero is records, and any other is text.
-abbrev pub Pieces : List ℕ → List Piece → Type 0
+abbrev pub Pieces : List ℕ → List Found → Type 0
 Pieces bytes ps = MatchBool (second_zero bytes) (Records bytes ps) (Lines bytes ps)
 
-abbrev pub piece_notes : Piece → List Note
-piece_notes (Verdict n) = n ∷ []
-piece_notes Other = []
-piece_notes DamagedLine = []
-piece_notes (DamagedRecord e) = []
+-- the note that a piece tells of
+abbrev pub piece_note : Found → Option Note
+piece_note (Ok told) = told
+piece_note (Err e) = None
 
 -- the notes that pieces tell of, in their order
-abbrev pub all_notes : List Piece → List Note
-all_notes ps = flat_map piece_notes ps
+abbrev pub all_notes : List Found → List Note
+all_notes ps = filter_map piece_note ps

@@ -1,6 +1,6 @@
 -- The rows of a sheet. Assumes nothing.
-use Rattle.std.specs.Prelude.{◌≡◌, ℕ, ◌<◌, ◌≤◌, ◌⊎◌, List, map, length, Some, None, Ok, Err, Option, Result, slice_index}
-use Rattle.std.specs.List.{ContainsAt, AllByRecursion}
+use Rattle.std.specs.Prelude.{◌≡◌, ℕ, ◌<◌, ◌≤◌, List, map, length, Some, None, Ok, Err, Option, Result, slice_index}
+use Rattle.std.specs.List.{All, Contains}
 use Rattle.refusal.specs.Faults.{first_fault}
 use Rattle.record.specs.declared.Car.{Car}
 use Rattle.record.specs.declared.Note.{Note}
@@ -26,17 +26,7 @@ Rowed ns c (Err e) = first_fault (note_faults ns c) ≡ Some (refusal_of e)
 abbrev pub SameShares : List Note → List Note → Car → Type 0
 SameShares ms ns c = (car_ticks ms c ≡ car_ticks ns c) × ((i : ℕ) → figure ms c i ≡ figure ns c i)
 
--- a car that is lower than the other, if there is one
-abbrev pub Lowers : Car → Option Car → Type 0
-Lowers c None = Unit {0}
-Lowers c (Some b) = c.number ≤ b.number
-
--- of the cars above a number the lower of two
-abbrev pub Lower : Car → ℕ → Option Car → Option Car → Type 0
-Lower c n next None = (c.number ≤ n) × (next ≡ None)
-Lower c n next (Some b) = ((next ≡ Some b) × (n < c.number → b.number ≤ c.number)) ⊎ ((b ≡ c) × (n < c.number) × Lowers c next)
-
 -- The lowest car above a number, or none.
 abbrev pub Next : List Note → ℕ → Option Car → Type 0
-Next ns n (Some c) = (n < c.number) × ContainsAt (map (λ m. m.car) ns) c × AllByRecursion (λ m. n < m.car.number → c.number ≤ m.car.number) ns
-Next ns n None = AllByRecursion (λ m. m.car.number ≤ n) ns
+Next ns n (Some c) = (n < c.number) × Contains (map (λ m. m.car) ns) c × All (λ m. n < m.car.number → c.number ≤ m.car.number) ns
+Next ns n None = All (λ m. m.car.number ≤ n) ns

@@ -2,12 +2,12 @@
 
 #![tactic(auto)]
 
-ghost use Rattle.std.specs.Prelude.{◌≡◌, ◌<◌, true, length, IfOk, filter};
-ghost use Rattle.std.specs.Option.{option_to_list};
+ghost use Rattle.std.specs.Prelude.{◌≡◌, true, IfOk, filter};
 ghost use Rattle.record.specs.Layout.{word_ok};
 ghost use Rattle.share.specs.Ticks.{of_car};
-ghost use Rattle.sheet.specs.Pieces.{OfRecord, RecordPiece, AfterLetter, Fields, Told, passed_over, LinePiece, FirstLine, Lines, Records, second_zero, Pieces, piece_notes, all_notes};
-ghost use Rattle.sheet.specs.Rows.{Rowed, SameShares, Lower, Next};
+ghost use Rattle.sheet.specs.Pieces.{OfRecord, RecordPiece, AfterLetter, Fields, Told, passed_over, LinePiece, Unended, Lines, Records, second_zero, Pieces, all_notes};
+ghost use Rattle.sheet.specs.declared.Damage.TheVariants.{BadRecord};
+ghost use Rattle.sheet.specs.Rows.{Rowed, SameShares, Next};
 
 use record::{Car, Note, Record, RecordFault};
 use share::{BusiestRule, ShareFault};
@@ -17,26 +17,23 @@ use std::str::from_utf8;
 // The length of a record.
 const RECORD: usize = 12;
 
-// A piece of the input, a line or a record.
-#[derive(Clone, Copy)]
-pub enum Piece {
-    Verdict(Note),
-    // sound, and without a verdict
-    Other,
-    DamagedLine,
-    DamagedRecord(RecordFault),
+// What is damaged in the input.
+#[derive(Clone, Copy, PartialEq, Eq, Debug)]
+pub enum Damage {
+    BadLine,
+    BadRecord(RecordFault),
 }
 
-impl Piece {
-    fn note(self) -> Option<Note>
-        ensures { option_to_list result ≡ piece_notes self }
-    {
-        match self {
-            Piece::Verdict(note) => Some(note),
-            _ => None,
-        }
+impl From<RecordFault> for Damage {
+    ghost from_gives = { λ x r. r ≡ BadRecord x };
+
+    fn from(fault: RecordFault) -> Damage {
+        Damage::BadRecord(fault)
     }
 }
+
+// A piece of the input, a line or a record: its verdict's note, or none if it has no verdict.
+pub type Piece = Result<Option<Note>, Damage>;
 
 // A car's shares, each rule's in its place.
 #[derive(Clone, Copy)]
@@ -49,17 +46,17 @@ pub struct Row {
 }
 
 // What a record tells of: V alone has a verdict.
-fn verdict_in(sent: Record) -> Piece
+fn verdict_in(sent: Record) -> Option<Note>
     requires { word_ok sent.letter sent.word ≡ true }
     ensures { OfRecord sent result }
 {
     match sent.letter {
-        'V' => Piece::Verdict(Note {
+        'V' => Some(Note {
             car: sent.car,
             word: sent.word as u16,
             ticks: sent.ticks,
         }),
-        _ => Piece::Other,
+        _ => None,
     }
 }
 
@@ -67,10 +64,8 @@ fn verdict_in(sent: Record) -> Piece
 fn record_piece(bytes: &[u8]) -> Piece
     ensures { RecordPiece bytes.now result }
 {
-    match Record::read(bytes) {
-        Ok(sent) => verdict_in(sent),
-        Err(fault) => Piece::DamagedRecord(fault),
-    }
+    let sent = Record::read(bytes)?;
+    Ok(verdict_in(sent))
 }
 
 // What follows V and a space.
@@ -108,6 +103,13 @@ fn note_in(line: &str) -> Option<Note>
     })
 }
 
+// The note that a line's bytes tell of.
+fn told_by(line: &[u8]) -> Option<Note>
+    ensures { Told line.now result }
+{
+    note_in(from_utf8(line).ok()?)
+}
+
 // Whether a line has no verdict: that of a table, of a restart or end, of a refusal, or an empty one.
 fn is_passed_over(line: &[u8]) -> bool
     ensures { result ≡ passed_over line.now }
@@ -120,55 +122,36 @@ fn line_piece(line: &[u8]) -> Piece
     ensures { LinePiece line.now result }
 {
     if is_passed_over(line) {
-        return Piece::Other;
+        return Ok(None);
     }
-    match from_utf8(line) {
-        Ok(text) => match note_in(text) {
-            Some(note) => Piece::Verdict(note),
-            None => Piece::DamagedLine,
-        },
-        Err(_) => Piece::DamagedLine,
-    }
+    told_by(line).map(Some).ok_or(Damage::BadLine)
 }
 
-// The first line, without its end, and what comes after.
-fn first_line(bytes: &[u8]) -> (&[u8], &[u8])
-    ensures { FirstLine bytes.now result.0.now result.1.now }
+// A line's bytes without its end.
+fn without_end(line: &[u8]) -> &[u8]
+    ensures { Unended line.now result.now }
 {
-    for (i, byte) in bytes.iter().enumerate() {
-        if *byte == b'\n' {
-            return (&bytes[0..i], &bytes[i + 1..]);
-        }
+    match line {
+        [line @ .., b'\n'] => line,
+        _ => line,
     }
-    (bytes, &[])
 }
 
 // The pieces of a text, line by line.
 fn lines(heap: Global, bytes: &[u8]) -> Result<Vec<Piece>, AllocError>
     ensures { IfOk result (λ v. Lines bytes.now v.items) }
 {
-    let mut found = Vec::new(heap);
-    let mut rest = bytes;
-    while !rest.is_empty() {
-        let (line, after) = first_line(rest);
-        found.push(line_piece(line))?;
-        rest = after;
-    }
-    Ok(found)
+    bytes
+        .split_inclusive(|byte| *byte == b'\n')
+        .map(|line| line_piece(without_end(line)))
+        .collect(heap)
 }
 
 // The pieces of records, twelve bytes by twelve.
 fn records(heap: Global, bytes: &[u8]) -> Result<Vec<Piece>, AllocError>
     ensures { IfOk result (λ v. Records bytes.now v.items) }
 {
-    let mut found = Vec::new(heap);
-    let mut rest = bytes;
-    while !rest.is_empty() {
-        let (sent, after) = rest.split_at(rest.len().min(RECORD));
-        found.push(record_piece(sent))?;
-        rest = after;
-    }
-    Ok(found)
+    bytes.chunks(RECORD).map(record_piece).collect(heap)
 }
 
 // Whether the input is records: the second byte of a record is zero, and a text has no such byte.
@@ -193,43 +176,39 @@ pub fn pieces(heap: Global, input: &[u8]) -> Result<Vec<Piece>, AllocError>
 pub fn notes_of(heap: Global, pieces: &[Piece]) -> Result<Vec<Note>, AllocError>
     ensures { IfOk result (λ v. v.items ≡ all_notes pieces.now) }
 {
-    let mut notes = Vec::new(heap);
-    for piece in pieces {
-        match piece.note() {
-            Some(note) => notes.push(note)?,
-            None => {}
-        }
-    }
-    Ok(notes)
+    pieces
+        .iter()
+        .filter_map(|piece| piece.ok().flatten())
+        .collect(heap)
 }
 
-// The lower of two cars, if the first is above the number.
-fn lower(car: Car, above: u16, next: Option<Car>) -> Option<Car>
-    ensures { Lower car above next result }
+// The lowest car of the notes that is above a number.
+fn lowest_above(notes: &[Note], number: u16) -> Option<Car>
+    ensures { Next notes.now number result }
 {
-    match next {
-        Some(other) if other.number <= car.number => next,
-        _ if car.number <= above => next,
-        _ => Some(car),
-    }
+    notes
+        .iter()
+        .map(|note| note.car)
+        .filter(|car| car.number > number)
+        .min()
 }
 
 // The lowest car above a number.
 pub fn next_car(notes: &[Note], above: u16) -> Option<Car>
     ensures { Next notes.now above result }
 {
-    let mut next = None;
-    for note in notes {
-        next = lower(note.car, above, next);
-    }
-    next
+    lowest_above(notes, above)
 }
 
-// Whether a note is of this car.
-fn is_of(note: &Note, car: Car) -> bool
-    ensures { result ≡ of_car car note.now }
+// The notes of a car, in their order.
+fn notes_by(heap: Global, notes: &[Note], car: Car) -> Result<Vec<Note>, AllocError>
+    ensures { IfOk result (λ v. v.items ≡ filter (of_car car) notes.now) }
 {
-    note.car == car
+    notes
+        .iter()
+        .filter(|note| note.car == car)
+        .copied()
+        .collect(heap)
 }
 
 // The car's own notes, in their order, which have the same shares for it.
@@ -237,13 +216,7 @@ pub fn own_notes(heap: Global, notes: &[Note], car: Car) -> Result<Vec<Note>, Al
     ensures items { IfOk result (λ v. v.items ≡ filter (of_car car) notes.now) }
     ensures shares { IfOk result (λ v. SameShares v.items notes.now car) }
 {
-    let mut own = Vec::new(heap);
-    for note in notes {
-        if is_of(note, car) {
-            own.push(*note)?;
-        }
-    }
-    Ok(own)
+    notes_by(heap, notes, car)
 }
 
 // A car's row.
@@ -253,8 +226,8 @@ pub fn row_of(notes: &[Note], car: Car) -> Result<Row, ShareFault>
     let busiest = share::busiest(notes, car)?;
     let ticks = share::share_of(notes, car, 0)?.all;
     let mut shares = [0; 16];
-    for rule in 0u8..16 {
-        shares[rule as usize] = share::share_of(notes, car, rule)?.per_mille;
+    for (rule, share) in shares.iter_mut().enumerate() {
+        *share = share::share_of(notes, car, rule as u8)?.per_mille;
     }
     Ok(Row {
         car,
@@ -278,10 +251,10 @@ mod tests {
         let mut marks = String::new(heap);
         for piece in pieces(heap, input)? {
             marks.push(match piece {
-                Piece::Verdict(_) => 'V',
-                Piece::Other => '-',
-                Piece::DamagedLine => '?',
-                Piece::DamagedRecord(_) => '!',
+                Ok(Some(_)) => 'V',
+                Ok(None) => '-',
+                Err(Damage::BadLine) => '?',
+                Err(Damage::BadRecord(_)) => '!',
             })?;
         }
         Ok(marks)

@@ -1,19 +1,24 @@
 -- How long a chain is whose rows have no fault so far. Assumes nothing.
-use Rattle.std.proofs.Common.{◌≡◌, ℕ, zero, suc, ◌+◌, ◌-◌, ◌*◌, ◌<◌, ◌≤◌, Bool, eqb, List, length, Some, None, sym, ap, ◌∙◌, inl, inr, arith}
+use Rattle.std.proofs.Common.{◌≡◌, ℕ, zero, suc, ◌+◌, ◌-◌, ◌*◌, ◌<◌, ◌≤◌, Bool, true, eqb, List, length, Some, None, sym, ap, ◌∙◌, inl, inr, arith}
 use Rattle.std.proofs.lemmas.List.FromFn.{length-map-range_with_len, get_or-map-range_with_len}
-use Rattle.std.proofs.lemmas.Bool.{and_parts, not-false, leb-true, eqb-true, eq-eqb, ne_eqb, cases_eq}
+use Rattle.std.proofs.lemmas.Bool.{eq-eqb, ne_eqb, cases_eq}
+use Rattle.std.proofs.lemmas.Bool.Decides.{nat_tests}
+use Rattle.mitl.specs.declared.Row.{Row}
+use Rattle.mitl.specs.declared.Row.TheVariants.{Input}
+use Rattle.mitl.specs.Rows.{row_at}
+use Rattle.plan.specs.Sound.{row_ok}
 use Rattle.plan.proofs.Found.{lost_from}
-use Rattle.table.specs.Chain.{on_chain, letter_at, fields_at, numbers_before, rows_before, chain_length, head_faults, right_head, row_faults}
-use Rattle.table.specs.Layout.{byte_at, rows_told, first_told}
+use Rattle.table.specs.Faults.{row_of}
+use Rattle.table.specs.Chain.{on_chain, letter_at, fields_at, row_in, numbers_before, rows_before, chain_length, head_faults, row_faults}
+use Rattle.table.specs.Layout.{rows_told, first_told}
 use Rattle.refusal.specs.Faults.{first_fault}
 use Rattle.table.specs.declared.row.Letter.{Letter}
 use Rattle.table.proofs.Distinct.{few_distinct}
-use Rattle.table.proofs.Fine.{Fine, fine_of}
+use Rattle.table.proofs.Fine.{Fine, fine_of, row_fine}
 use Rattle.refusal.proofs.Firsts.{none_held}
 use Rattle.table.proofs.Numbers.{first_is, first_past}
 
 pub record Headed (t : List ℕ) : Type 0 where
-  pub some_rows : 1 ≤ rows_told t
   pub few_rows : rows_told t ≤ 64
   pub some_first : 1 ≤ first_told t
   pub low_first : first_told t ≤ rows_told t
@@ -22,16 +27,13 @@ pub record Headed (t : List ℕ) : Type 0 where
 pub headed : (t : List ℕ) → first_fault (head_faults t) ≡ None → Headed t
 headed t e =
     let all = none_held (head_faults t) e in
-    let right = not-false (right_head (rows_told t) (first_told t) (byte_at t 6) (byte_at t 7)) all.1.1.0 in
-    let parts = and_parts _ _ right in
-    let told = and_parts _ _ parts.0 in
-    let first = and_parts _ _ (and_parts _ _ parts.1).0 in
+    let right = all.1.1.0 in
+    let size = all.1.1.1.0 in
     record {
-      some_rows = leb-true _ _ told.0;
-      few_rows = leb-true _ _ told.1;
-      some_first = leb-true _ _ first.0;
-      low_first = leb-true _ _ first.1;
-      long = eqb-true _ _ (not-false (eqb (length t) (8 + 16 * rows_told t)) all.1.1.1.0);
+      few_rows = grind (arith, nat_tests);
+      some_first = grind (arith, nat_tests);
+      low_first = grind (arith, nat_tests);
+      long = grind (arith, nat_tests);
     }
 
 module _ (admits : ℕ → ℕ → Bool) (t : List ℕ) where
@@ -39,6 +41,17 @@ module _ (admits : ℕ → ℕ → Bool) (t : List ℕ) where
   pub fine_at : (k : ℕ) → first_fault (row_faults admits t k) ≡ None
       → (c : Letter) × (letter_at t k ≡ Some c) × Fine (rows_told t) (numbers_before t k) (rows_before t k) (on_chain t k) c (fields_at t k)
   fine_at k e = fine_of admits (rows_told t) (numbers_before t k) (rows_before t k) (on_chain t k) (letter_at t k) (fields_at t k) e
+
+  -- rows that are those of a chain without a fault may each stand at their places of a plan
+  pub row_stands : (rows : List Row) (n : ℕ) → ((k : ℕ) → k < n → first_fault (row_faults admits t k) ≡ None) → ((k : ℕ) → k < n → row_at rows k ≡ row_in t k)
+      → (k : ℕ) → k < n → row_ok rows k (row_at rows k) ≡ true
+  row_stands rows n fine same k l =
+      let f = fine_at k (fine k l) in
+      let ns = numbers_before t k in
+      let before : (j : ℕ) → j < k → row_at rows j ≡ row_at (rows_before t k) j =
+      λ j m. same j (omega arith) ∙ sym (get_or-map-range_with_len (row_in t) 0 k j j (Input 0) m (omega arith)) in
+      ap (row_ok rows k) (same k l ∙ ap (λ o. row_of ns o (fields_at t k)) f.1)
+      ∙ row_fine ns (rows_before t k) rows k (length-map-range_with_len (on_chain t) 0 k) before (rows_told t) (on_chain t k) f.0 (fields_at t k) f.2
 
   module _ (h : Headed t) (n : ℕ) (fine : (k : ℕ) → k < n → first_fault (row_faults admits t k) ≡ None) where
     pub low_at : (k : ℕ) → k ≤ n → on_chain t k ≤ rows_told t

@@ -1,62 +1,19 @@
 -- Distinct numbers below a bound are no more than the bound. Assumes nothing.
-use Rattle.std.proofs.Common.{◌≡◌, ℕ, zero, suc, ◌+◌, ◌<◌, ◌≤◌, Bool, false, cond, ◌||◌, eqb, refl, ap, inl, inr, arith}
-use Rattle.std.proofs.lemmas.Bool.{cases_eq, eq-eqb, ne_eqb}
-use Rattle.std.proofs.lemmas.Bool.Decides.{nat_tests}
-use Rattle.mitl.specs.Windows.{some_below}
-use Rattle.plan.proofs.Below.{some_none}
-
--- how many numbers below m pass
-among : (ℕ → Bool) → ℕ → ℕ
-among p zero = 0
-among p (suc m) = cond (p m) 1 0 + among p m
-
-among_le : (p : ℕ → Bool) (m : ℕ) → among p m ≤ m
-unfolding among
-among_le p zero = omega arith
-among_le p (suc m) = let h = among_le p m in grind (arith, nat_tests)
-
-among_none : (m : ℕ) → among (λ _. false) m ≡ 0
-unfolding among
-among_none zero = refl
-among_none (suc m) = omega (arith, among_none m)
-
-module _ (p q : ℕ → Bool) (x : ℕ) (more : (v : ℕ) → q v ≡ (eqb x v || p v)) where
-  among_same : (m : ℕ) → m ≤ x → among q m ≡ among p m
-  unfolding among
-  among_same zero h = refl
-  among_same (suc m) h =
-      let e = more m in
-      let n = ne_eqb x m (omega arith) in
-      let r = among_same m (omega arith) in
-      grind (arith, nat_tests)
-
-  among_more : (m : ℕ) → x < m → p x ≡ false → among q m ≡ 1 + among p m
-  unfolding among
-  among_more zero h none = absurd (omega arith)
-  among_more (suc m) h none =
-      elim (cases_eq x m) [
-        | inl same ↦
-            let e = more m in
-            let y = eq-eqb x m same in
-            let r = among_same m (omega arith) in
-            let z = ap p same in
-            grind (arith, nat_tests)
-        | inr other ↦
-            let e = more m in
-            let n = ne_eqb x m other in
-            let r = among_more m (omega arith) none in
-            grind (arith, nat_tests)
-      ]
+use Rattle.std.proofs.Common.{◌≡◌, ℕ, ◌<◌, ◌≤◌, true, eqb, map, length, sym, ◌∙◌, arith}
+use Rattle.std.specs.List.{range_with_len, list_any, IsDistinct}
+use Rattle.std.proofs.lemmas.Bool.{eqb-true, ne_eqb}
+use Rattle.std.proofs.lemmas.List.Folds.{Any-from_list_any}
+use Rattle.std.proofs.lemmas.List.FromFn.{length-map-range_with_len, get_or-map-range_with_len}
+use Rattle.std.proofs.lemmas.Map.Keys.{IsDistinct-from_apart}
+use Rattle.std.proofs.lemmas.Map.Steps.{length-le_from_distinct_below}
 
 pub few_distinct : (f : ℕ → ℕ) (m n : ℕ) → ((k : ℕ) → k < n → f k < m) → ((j k : ℕ) → j < k → k < n → f j ≡ f k → ⊥) → n ≤ m
-few_distinct f m n low apart = omega (arith, all n (omega arith), among_le (met n) m)
-  where
-    met : ℕ → ℕ → Bool
-    met i v = some_below (λ k. eqb (f k) v) i
-
-    all : (i : ℕ) → i ≤ n → among (met i) m ≡ i
-    all zero h = among_none m
-    all (suc i) h =
-        let fresh : met i (f i) ≡ false = some_none (λ k. eqb (f k) (f i)) i (λ k l. ne_eqb (f k) (f i) (apart k i l (omega arith))) in
-        let one = among_more (met i) (met (suc i)) (f i) (λ v. refl) m (low i (omega arith)) fresh in
-        omega (arith, one, all i (omega arith))
+few_distinct f m n low apart =
+    let xs = map f (range_with_len 0 n) in
+    let long : length xs ≡ n = length-map-range_with_len f 0 n in
+    let at = λ (k d : ℕ) (h : k < n). get_or-map-range_with_len f 0 n k k d h (omega arith) in
+    let distinct : IsDistinct eqb xs =
+    IsDistinct-from_apart eqb xs (λ i j d l h. ne_eqb _ _ (λ e. apart i j l (omega arith) (sym (at i d (omega arith)) ∙ e ∙ at j d (omega arith)))) in
+    let below : (q : ℕ) → list_any (eqb q) xs ≡ true → q < m =
+    λ q e. (let w = Any-from_list_any (eqb q) xs e in omega (arith, eqb-true q w.1 w.4, w.3, at w.0 w.1 (omega arith), low w.0 (omega arith))) in
+    omega (arith, length-le_from_distinct_below xs m distinct below)

@@ -1,6 +1,9 @@
 -- What is known of a row without a fault. Assumes nothing.
-use Rattle.std.proofs.Common.{◌≡◌, ℕ, ◌<◌, ◌≤◌, Bool, true, false, cond, not, ◌&&◌, ◌||◌, eqb, ltb, List, length, is_some, Some, None, Option, unwrap_or, sym, refl, ap, ◌∙◌, subst, inl, inr, arith}
-use Rattle.std.proofs.lemmas.Bool.{cases_Bool, and_parts, and_from, not-false, not_from_false, or_parts, ltb-false, eqb-false, both_ways, cond-true, lt-ltb}
+use Rattle.std.proofs.Common.{◌≡◌, ℕ, ◌<◌, ◌≤◌, Bool, true, false, cond, not, ◌&&◌, List, length, is_some, Some, None, Option, sym, refl, subst, arith}
+use Rattle.std.proofs.lemmas.Bool.{and_parts, and_from, not-false}
+use Rattle.std.proofs.lemmas.Bool.Decides.{nat_tests}
+use Rattle.std.proofs.lemmas.Option.{none-some}
+use Rattle.refusal.specs.Faults.{refusal}
 use Rattle.mitl.specs.declared.Row.{Row}
 use Rattle.mitl.specs.Rows.{row_at}
 use Rattle.mitl.specs.Windows.{sound_window}
@@ -25,25 +28,24 @@ pub record Fine (told : ℕ) (ns : List ℕ) (rs : List Row) (r : ℕ) (c : Lett
 
 not_some : (o : Option ℕ) → is_some o ≡ false → o ≡ None
 not_some None e = refl
-not_some (Some k) e = absurd (both_ways true e refl)
+not_some (Some k) e = grind arith
 
 module _ (admits : ℕ → ℕ → Bool) (told : ℕ) (ns : List ℕ) (rs : List Row) (r : ℕ) where
   fine_as : (c : Letter) (f : Fields) → first_fault (faults_as admits told ns rs r c f) ≡ None → Fine told ns rs r c f
   fine_as c f e =
       let all = none_held (faults_as admits told ns rs r c f) e in
-      let last = or_parts (ltb told f.next) (eqb f.next r || is_some (place_among_lem ns f.next)) all.1.1.1.1.1.0 in
-      let rest = or_parts (eqb f.next r) (is_some (place_among_lem ns f.next)) last.1 in
+      let last = all.1.1.1.1.1.0 in
       record {
         filled = not-false (well_filled_lem c f) all.0;
         operands = not-false (operands_right ns rs c f) all.1.0;
         window = all.1.1.0;
-        within = ltb-false told f.next last.0;
-        on = eqb-false f.next r rest.0;
-        fresh = not_some (place_among_lem ns f.next) rest.1;
+        within = grind (arith, nat_tests);
+        on = λ e. grind (arith, nat_tests);
+        fresh = not_some (place_among_lem ns f.next) (grind (arith, nat_tests));
       }
 
   pub fine_of : (o : Option Letter) (f : Fields) → first_fault (faults_of admits told ns rs r o f) ≡ None → (c : Letter) × (o ≡ Some c) × Fine told ns rs r c f
-  fine_of None f e = let z : ◌≡◌ {A = ℕ} 0 1 = cc in absurd (omega arith)
+  fine_of None f e = absurd (none-some (refusal 4 r) (sym e))
   fine_of (Some c) f e = (c, refl, fine_as c f e)
 
   -- the number of an R row without a fault was not used before
@@ -54,19 +56,13 @@ module _ (admits : ℕ → ℕ → Bool) (told : ℕ) (ns : List ℕ) (rs : List
 -- a row without a fault may stand at its place of a plan
 module _ (ns : List ℕ) (rs rows : List Row) (k : ℕ) (long : length ns ≡ k) (same : (j : ℕ) → j < k → row_at rows j ≡ row_at rs j) where
   no_rule : (j : ℕ) → is_some (cond (is_a_rule (row_at rs j)) None (Some j)) ≡ true → is_a_rule (row_at rs j) ≡ false
-  no_rule j e =
-      elim (cases_Bool (is_a_rule (row_at rs j))) [
-        | inl y ↦ absurd (both_ways (is_some (cond (is_a_rule (row_at rs j)) None (Some j))) (ap is_some (cond-true (is_a_rule (row_at rs j)) None (Some j) y)) e)
-        | inr y ↦ y
-      ]
+  no_rule j e = grind (arith, nat_tests)
 
   operand_at : (n : ℕ) (o : Option ℕ) → place_among_lem ns n ≡ o → is_some (unless_rule rs o) ≡ true → operand_ok rows k (place_in ns n) ≡ true
-  operand_at n None e some = absurd (both_ways true (sym some) refl)
+  operand_at n None e some = grind arith
   operand_at n (Some j) e some =
       let w = found_place ns n j e in
-      let in' : j < k = omega (arith, w.0) in
-      ap (λ o. operand_ok rows k (unwrap_or o 0)) e
-      ∙ and_from (ltb j k) _ (lt-ltb j k in') (not_from_false _ (ap is_a_rule (same j in') ∙ no_rule j some))
+      grind (arith, nat_tests, same j, no_rule j some)
 
   operand_fine : (n : ℕ) → is_some (operand_place ns rs n) ≡ true → operand_ok rows k (place_in ns n) ≡ true
   operand_fine n some = operand_at n (place_among_lem ns n) refl some

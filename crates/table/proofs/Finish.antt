@@ -1,24 +1,24 @@
 -- A whole chain as a plan, and the refusal of a table by its parts. Assumes nothing.
-use Rattle.std.proofs.Common.{◌≡◌, ℕ, ◌-◌, ◌<◌, Bool, true, false, not, ◌&&◌, List, [], ◌∷◌, ◌++◌, take, drop, replicate, Some, None, sym, ap, ◌∙◌, arith}
-use Rattle.std.proofs.lemmas.List.FromFn.{length-map-range_with_len, get_or-map-range_with_len}
+use Rattle.std.proofs.Common.{◌≡◌, ℕ, ◌<◌, Bool, true, false, not, ◌&&◌, List, [], ◌∷◌, ◌++◌, Some, None, Option, sym, ap, ◌∙◌, arith}
+use Rattle.std.proofs.lemmas.List.FromFn.{get_or-map-range_with_len}
 use Rattle.std.proofs.lemmas.List.{get_or-take}
-use Rattle.std.proofs.lemmas.Bool.{le-leb, not_from_true, not_from_false, cond-true, cond-false}
+use Rattle.std.specs.Option.{ok_or}
+use Rattle.std.proofs.lemmas.Bool.{le-leb, cond-true, cond-false}
 use Rattle.mitl.specs.declared.Row.TheVariants.{Input}
 use Rattle.mitl.specs.Rows.{row_at}
 use Rattle.mitl.specs.Windows.{some_below}
 use Rattle.plan.specs.declared.plan.Plan.{Plan}
+use Rattle.plan.specs.Built.{Built}
 use Rattle.plan.specs.Sound.{is_a_rule, row_ok, sound_rows}
 use Rattle.plan.proofs.Below.{all_from, some_same}
-use Rattle.table.specs.Chain.{on_chain, row_in, fields_at, numbers_before, rows_before, ruled, head_faults, chain_faults, table_refusal}
-use Rattle.table.specs.Decoded.{PlanOf}
+use Rattle.table.specs.Chain.{row_in, ruled, head_faults, chain_faults, table_refusal}
+use Rattle.table.specs.Decoded.{Decoded, PlanOf}
+use Rattle.table.specs.declared.fault.TableFault.TheVariants.{NoRule}
 use Rattle.table.specs.Steps.{DraftOf}
-use Rattle.table.specs.Faults.{row_of}
-use Rattle.table.specs.Layout.{rows_told}
 use Rattle.refusal.specs.Faults.{Fault, first_fault, refusal, fault}
-use Rattle.table.specs.declared.Draft.{Draft}
+use Rattle.table.specs.declared.draft.Draft.{Draft}
 use Rattle.refusal.specs.declared.Refusal.{Refusal}
-use Rattle.table.proofs.Chains.{fine_at}
-use Rattle.table.proofs.Fine.{row_fine}
+use Rattle.table.proofs.Chains.{row_stands}
 use Rattle.refusal.proofs.Firsts.{after_none, before_rest}
 
 module _ (admits : ℕ → ℕ → Bool) (t : List ℕ) (d : Draft) (of : DraftOf admits t d) where
@@ -27,33 +27,16 @@ module _ (admits : ℕ → ℕ → Bool) (t : List ℕ) (d : Draft) (of : DraftO
       sym (get_or-take d.count d.rows k (Input 0) h) ∙ ap (λ l. row_at l k) of.rows
       ∙ get_or-map-range_with_len (row_in t) 0 d.count k k (Input 0) h (omega arith)
 
-  row_there : (k j : ℕ) → k < d.count → j < k → row_at d.rows j ≡ row_at (rows_before t k) j
-  row_there k j h l =
-      row_here j (omega arith) ∙ sym (get_or-map-range_with_len (row_in t) 0 k j j (Input 0) l (omega arith))
-
-  row_stands : (k : ℕ) → k < d.count → row_ok d.rows k (row_at d.rows k) ≡ true
-  row_stands k h =
-      let f = fine_at admits t k (of.each k h) in
-      let ns = numbers_before t k in
-      ap (row_ok d.rows k) (row_here k h ∙ ap (λ o. row_of ns o (fields_at t k)) f.1)
-      ∙ row_fine ns (rows_before t k) d.rows k (length-map-range_with_len (on_chain t) 0 k) (λ j l. row_there k j h l) (rows_told t) (on_chain t k) f.0 (fields_at t k) f.2
-
-  pub sound_draft : sound_rows d.rows d.count ≡ ruled t
+  sound_draft : sound_rows d.rows d.count ≡ ruled t
   sound_draft =
-      let small = le-leb d.count 64 of.few in
-      let each = all_from (λ k. row_ok d.rows k (row_at d.rows k)) d.count row_stands in
+      let small = le-leb d.count 64 d.few in
+      let each = all_from (λ k. row_ok d.rows k (row_at d.rows k)) d.count (row_stands admits t d.rows d.count of.each row_here) in
       let some = some_same (λ k. is_a_rule (row_at d.rows k)) (λ k. is_a_rule (row_in t k)) d.count (λ k h. ap is_a_rule (row_here k h)) in
       (λ i. small i && (each i && some i)) ∙ ap (some_below (λ k. is_a_rule (row_in t k))) of.count
 
-  pub planned : (p : Plan) → p.rows ≡ d.rows → p.numbers ≡ d.numbers → p.count ≡ d.count → PlanOf t p
+  planned : (p : Plan) → p.rows ≡ d.rows → p.numbers ≡ d.numbers → p.count ≡ d.count → PlanOf t p
   planned p rows numbers count =
-      record {
-        count = count ∙ of.count;
-        rows = (λ i. take (count i) (rows i)) ∙ of.rows ∙ ap (rows_before t) of.count;
-        numbers = (λ i. take (count i) (numbers i)) ∙ of.numbers ∙ ap (numbers_before t) of.count;
-        idle_rows = (λ i. drop (count i) (rows i)) ∙ of.idle_rows ∙ ap (λ n. replicate (64 - n) (Input 0)) (sym count);
-        idle_numbers = (λ i. drop (count i) (numbers i)) ∙ of.idle_numbers ∙ ap (λ n. replicate (64 - n) 0) (sym count);
-      }
+      record { count = cc; rows = cc; numbers = cc; idle_rows = cc (d.idle_rows); idle_numbers = cc (d.idle_numbers) }
 
 module _ (admits : ℕ → ℕ → Bool) (t : List ℕ) where
   last_check : List Fault
@@ -69,14 +52,20 @@ module _ (admits : ℕ → ℕ → Bool) (t : List ℕ) where
     row_refused r e = after_none (head_faults t) (chain_faults admits t ++ last_check) opened ∙ before_rest (chain_faults admits t) last_check r e
 
     module _ (walked : first_fault (chain_faults admits t) ≡ None) where
-      pub rule_refused : ruled t ≡ false → table_refusal admits t ≡ Some (refusal 11 0)
+      by_rules : table_refusal admits t ≡ first_fault last_check
       unfolding table_refusal last_check
-      rule_refused none =
-          after_none (head_faults t) (chain_faults admits t ++ last_check) opened ∙ after_none (chain_faults admits t) last_check walked
-          ∙ cond-true (not (ruled t)) (Some (refusal 11 0)) None (not_from_false (ruled t) none)
+      by_rules = after_none (head_faults t) (chain_faults admits t ++ last_check) opened ∙ after_none (chain_faults admits t) last_check walked
+
+      pub rule_refused : ruled t ≡ false → table_refusal admits t ≡ Some (refusal 11 0)
+      unfolding last_check
+      rule_refused none = by_rules ∙ cond-true (not (ruled t)) (Some (refusal 11 0)) None (ap not none)
 
       pub not_refused : ruled t ≡ true → table_refusal admits t ≡ None
-      unfolding table_refusal last_check
-      not_refused some =
-          after_none (head_faults t) (chain_faults admits t ++ last_check) opened ∙ after_none (chain_faults admits t) last_check walked
-          ∙ cond-false (not (ruled t)) (Some (refusal 11 0)) None (not_from_true (ruled t) some)
+      unfolding last_check
+      not_refused some = by_rules ∙ cond-false (not (ruled t)) (Some (refusal 11 0)) None (ap not some)
+
+      -- the reply to a whole chain: its plan, or that it has no rule
+      pub built_reply : (d : Draft) → DraftOf admits t d → (o : Option Plan) → Built d.rows d.numbers d.count o → Decoded admits t (ok_or o NoRule)
+      built_reply d of None built = rule_refused (sym (sound_draft admits t d of) ∙ built)
+      built_reply d of (Some p) built =
+          (not_refused (sym (sound_draft admits t d of) ∙ built.0), planned admits t d of p built.1 built.2 built.3)

@@ -1,7 +1,8 @@
 -- The laws of a table's refusal and of its chain. Assumes nothing.
-use Rattle.std.proofs.Common.{◌≡◌, ℕ, zero, suc, ◌-◌, ◌<◌, ◌≤◌, Bool, not, eqb, List, [], ◌∷◌, ◌++◌, take, drop, replicate, Some, None, Ok, Err, Result, sym, refl, ap, ◌∙◌, inl, inr, arith}
+use Rattle.std.proofs.Common.{◌≡◌, ℕ, zero, suc, ◌-◌, ◌<◌, ◌≤◌, Bool, not, eqb, List, [], ◌∷◌, ◌++◌, take, drop, replicate, Some, None, Ok, Err, Result, sym, refl, ◌∙◌, inl, inr, arith}
 use Rattle.std.proofs.lemmas.List.{take-append-drop}
 use Rattle.std.proofs.lemmas.Bool.{cases_lt, eqb-true, eqb-false}
+use Rattle.std.proofs.lemmas.Option.{none-some, same_Some}
 use Rattle.mitl.specs.declared.Row.TheVariants.{Input}
 use Rattle.plan.specs.declared.plan.Plan.{Plan}
 use Rattle.plan.specs.Sound.{is_a_rule}
@@ -109,8 +110,7 @@ module _ (admits : ℕ → ℕ → Bool) (t : List ℕ) where
 
   same_list : {X : Type 0} (xs ys : List X) (m n : ℕ) (d : X) (zs : List X) → m ≡ n → take m xs ≡ zs → take n ys ≡ zs
       → drop m xs ≡ replicate (64 - m) d → drop n ys ≡ replicate (64 - n) d → xs ≡ ys
-  same_list xs ys m n d zs e a b c f =
-      sym (take-append-drop m xs) ∙ (λ i. (a ∙ sym b) i ++ (c ∙ ap (λ k. replicate (64 - k) d) e ∙ sym f) i) ∙ take-append-drop n ys
+  same_list xs ys m n d zs e a b c f = grind (arith, take-append-drop m xs, take-append-drop n ys)
 
   pub one : (r s : Result Plan TableFault) → Decoded admits t r → Decoded admits t s → SameReply r s
   one (Ok p) (Ok q) a b =
@@ -119,17 +119,9 @@ module _ (admits : ℕ → ℕ → Bool) (t : List ℕ) where
         same_list p.numbers q.numbers p.count q.count 0 _ count a.1.numbers b.1.numbers a.1.idle_numbers b.1.idle_numbers,
         count,
       )
-  one (Ok p) (Err g) a b =
-      let s : None ≡ Some (of_table g) = sym a.0 ∙ b in
-      let z : ◌≡◌ {A = ℕ} 0 1 = cc in
-      omega arith
-  one (Err f) (Ok q) a b =
-      let s : None ≡ Some (of_table f) = sym b.0 ∙ a in
-      let z : ◌≡◌ {A = ℕ} 0 1 = cc in
-      omega arith
-  one (Err f) (Err g) a b =
-      let s : Some (of_table f) ≡ Some (of_table g) = sym a ∙ b in
-      cc
+  one (Ok p) (Err g) a b = none-some (of_table g) (sym a.0 ∙ b)
+  one (Err f) (Ok q) a b = none-some (of_table f) (sym b.0 ∙ a)
+  one (Err f) (Err g) a b = same_Some (of_table f) (of_table g) (sym a ∙ b)
 
 pub tables_told : TablesTold
 tables_told = record { said = said; told = tells; chained = chained; one_reply = one }

@@ -1,7 +1,8 @@
 -- What the tests on the rows before a place say of the chain and of the bytes. Assumes nothing.
-use Rattle.std.proofs.Common.{◌≡◌, ℕ, ◌<◌, Bool, true, false, cond, not, ◌&&◌, eqb, List, length, get_or, is_some, Some, None, Decides, Option, unwrap_or, sym, refl, ap, ◌∙◌, inl, inr, arith}
+use Rattle.std.proofs.Common.{◌≡◌, ℕ, ◌<◌, Bool, true, false, cond, not, ◌&&◌, eqb, List, length, get_or, is_some, Some, None, Decides, Option, unwrap_or, sym, refl, ap, ◌∙◌, arith}
 use Rattle.std.proofs.lemmas.List.FromFn.{length-map-range_with_len, get_or-map-range_with_len}
-use Rattle.std.proofs.lemmas.Bool.{cases_Bool, both_ways, eq-eqb, eqb-true, eqb-false, ne_eqb, cond-true, cond-false, and_parts, and_from, and_right}
+use Rattle.std.proofs.lemmas.Bool.{both_ways}
+use Rattle.std.proofs.lemmas.Bool.Decides.{nat_tests}
 use Rattle.mitl.specs.declared.Row.TheVariants.{Input}
 use Rattle.mitl.specs.Rows.{row_at, is_rule}
 use Rattle.plan.specs.Places.{place_among_lem}
@@ -26,51 +27,31 @@ module _ (ns : List ℕ) (f : Fields) where
   last_of : (p n a o d b s r : Bool) → Bool
   last_of p n a o d b s r = not p && (not n && (not a && (not o && (not d && (not b && (not s && r))))))
 
-  rule_last : (p n a o d b s r : Bool) → is_a_rule (row_of ns (letters p n a o d b s r) f) ≡ last_of p n a o d b s r
+  last_is : (p n a o d b s r : Bool) → (is_a_rule (row_of ns (letters p n a o d b s r) f) ≡ last_of p n a o d b s r)
+      × ((m : ℕ) → is_rule m (row_of ns (letters p n a o d b s r) f) ≡ (last_of p n a o d b s r && eqb m f.number))
   unfolding letters last_of
-  rule_last true n a o d b s r = refl
-  rule_last false true a o d b s r = refl
-  rule_last false false true o d b s r = refl
-  rule_last false false false true d b s r = refl
-  rule_last false false false false true b s r = refl
-  rule_last false false false false false true s r = refl
-  rule_last false false false false false false true r = refl
-  rule_last false false false false false false false true = refl
-  rule_last false false false false false false false false = refl
-
-  number_last : (m : ℕ) (p n a o d b s r : Bool) → is_rule m (row_of ns (letters p n a o d b s r) f) ≡ (last_of p n a o d b s r && eqb m f.number)
-  unfolding letters last_of
-  number_last m true n a o d b s r = refl
-  number_last m false true a o d b s r = refl
-  number_last m false false true o d b s r = refl
-  number_last m false false false true d b s r = refl
-  number_last m false false false false true b s r = refl
-  number_last m false false false false false true s r = refl
-  number_last m false false false false false false true r = refl
-  number_last m false false false false false false false true = refl
-  number_last m false false false false false false false false = refl
+  last_is true n a o d b s r = (refl, λ m. refl)
+  last_is false true a o d b s r = (refl, λ m. refl)
+  last_is false false true o d b s r = (refl, λ m. refl)
+  last_is false false false true d b s r = (refl, λ m. refl)
+  last_is false false false false true b s r = (refl, λ m. refl)
+  last_is false false false false false true s r = (refl, λ m. refl)
+  last_is false false false false false false true r = (refl, λ m. refl)
+  last_is false false false false false false false true = (refl, λ m. refl)
+  last_is false false false false false false false false = (refl, λ m. refl)
 
   only_r : (c : ℕ) → last_of (eqb c 80) (eqb c 78) (eqb c 65) (eqb c 79) (eqb c 68) (eqb c 66) (eqb c 83) (eqb c 82) ≡ eqb c 82
   unfolding last_of
-  only_r c =
-      elim (cases_Bool (eqb c 82)) [
-        | inl y ↦
-            let e = eqb-true c 82 y in
-            let off : (d : ℕ) → (82 ≡ d → ⊥) → not (eqb c d) ≡ true = λ d ne. ap not (ne_eqb c d (λ z. ne (sym e ∙ z))) in
-            and_from _ _ (off 80 (λ z. omega arith)) (and_from _ _ (off 78 (λ z. omega arith)) (and_from _ _ (off 65 (λ z. omega arith))
-            (and_from _ _ (off 79 (λ z. omega arith)) (and_from _ _ (off 68 (λ z. omega arith)) (and_from _ _ (off 66 (λ z. omega arith))
-            (and_from _ _ (off 83 (λ z. omega arith)) y)))))) ∙ sym y
-        | inr n ↦ (and_right (not (eqb c 80)) _ (and_right (not (eqb c 78)) _ (and_right (not (eqb c 65)) _ (and_right (not (eqb c 79)) _ (and_right (not (eqb c 68)) _ (and_right (not (eqb c 66)) _ (and_right (not (eqb c 83)) _ n))))))) ∙ sym n
-      ]
+  only_r c = grind (arith, nat_tests)
 
   pub rule_letter_is : (c : ℕ) → is_a_rule (row_of ns (letter_from c) f) ≡ eqb c 82
   unfolding letters
-  rule_letter_is c = rule_last (eqb c 80) (eqb c 78) (eqb c 65) (eqb c 79) (eqb c 68) (eqb c 66) (eqb c 83) (eqb c 82) ∙ only_r c
+  rule_letter_is c = (last_is (eqb c 80) (eqb c 78) (eqb c 65) (eqb c 79) (eqb c 68) (eqb c 66) (eqb c 83) (eqb c 82)).0 ∙ only_r c
 
   pub rule_number_is : (m c : ℕ) → is_rule m (row_of ns (letter_from c) f) ≡ (eqb c 82 && eqb m f.number)
   unfolding letters
   rule_number_is m c =
-      number_last m (eqb c 80) (eqb c 78) (eqb c 65) (eqb c 79) (eqb c 68) (eqb c 66) (eqb c 83) (eqb c 82) ∙ ap (λ b. b && eqb m f.number) (only_r c)
+      (last_is (eqb c 80) (eqb c 78) (eqb c 65) (eqb c 79) (eqb c 68) (eqb c 66) (eqb c 83) (eqb c 82)).1 m ∙ ap (λ b. b && eqb m f.number) (only_r c)
 
 module _ (t : List ℕ) (i : ℕ) where
   at_place : (k : ℕ) → k < i → get_or (numbers_before t i) k 0 ≡ on_chain t k
@@ -90,7 +71,7 @@ module _ (t : List ℕ) (i : ℕ) where
       lost_from 0 (numbers_before t i) n e k (omega (arith, length-map-range_with_len (on_chain t) 0 i)) (at_place k l ∙ s)
 
   stands_by : (n : ℕ) (o : Option ℕ) → place_among_lem (numbers_before t i) n ≡ o → Decides (is_some o) ((k : ℕ) × (k < i) × (on_chain t k ≡ n))
-  stands_by n None e = (λ y. absurd (both_ways true (sym y) refl), λ w. absurd (lost_at n e w.0 w.1 w.2))
+  stands_by n None e = (λ y. grind arith, λ w. absurd (lost_at n e w.0 w.1 w.2))
   stands_by n (Some k) e = let w = found_at n k e in (λ _. (k, w.0, w.1), λ _. refl)
 
   place_by : (n : ℕ) (o : Option ℕ) → place_among_lem (numbers_before t i) n ≡ o → is_some o ≡ true → (unwrap_or o 0 < i) × (on_chain t (unwrap_or o 0) ≡ n)
@@ -108,15 +89,10 @@ module _ (t : List ℕ) (i : ℕ) where
   operand_by n None e = (λ y. absurd (both_ways true (sym y) refl), λ w. absurd (lost_at n e w.0.0 w.0.1 w.0.2))
   operand_by n (Some k) e =
       let w = found_at n k e in
-      let r = rule_at n k w.0 w.1 in
-      elim (cases_Bool (is_a_rule (row_at (rows_before t i) k))) [
-        | inl y ↦
-            let c = ap is_some (cond-true (is_a_rule (row_at (rows_before t i) k)) None (Some k) y) in
-            (λ z. absurd (both_ways _ c z), λ z. absurd (z.1 (eqb-true _ 82 (sym r ∙ y))))
-        | inr y ↦
-            let c = ap is_some (cond-false (is_a_rule (row_at (rows_before t i) k)) None (Some k) y) in
-            (λ _. ((k, w.0, w.1), eqb-false _ 82 (sym r ∙ y)), λ _. c)
-      ]
+      let r = rule_at n k w.0 w.1 in (
+        λ z. ((k, w.0, w.1), λ e. grind (arith, nat_tests)),
+        λ z. grind (arith, nat_tests, z.1),
+      )
 
   number_at : (n k : ℕ) → k < i → is_rule n (row_at (rows_before t i) k) ≡ (eqb (fields_at t k).letter 82 && eqb n (fields_at t k).number)
   number_at n k l =
@@ -128,11 +104,11 @@ module _ (t : List ℕ) (i : ℕ) where
         λ y.
             let w = some_at (λ k. is_rule n (row_at (rows_before t i) k)) (length (rows_before t i)) y in
             let l : w.0 < i = omega (arith, w.1, long) in
-            let p = and_parts _ _ (sym (number_at n w.0 l) ∙ w.2) in
-            (w.0, l, eqb-true _ 82 p.0, sym (eqb-true n _ p.1)),
+            let e = number_at n w.0 l in
+            (w.0, l, grind (arith, nat_tests), grind (arith, nat_tests)),
         λ w.
-            some_from (λ k. is_rule n (row_at (rows_before t i) k)) (length (rows_before t i)) w.0 (omega (arith, w.1, long))
-            (number_at n w.0 w.1 ∙ and_from _ _ (eq-eqb _ 82 w.2) (eq-eqb n _ (sym w.3))),
+            let e = number_at n w.0 w.1 in
+            some_from (λ k. is_rule n (row_at (rows_before t i) k)) (length (rows_before t i)) w.0 (omega (arith, w.1, long)) (grind (arith, nat_tests, w.2, w.3)),
       )
 
 pub said : (t : List ℕ) (i : ℕ) → ReadAsSaid t i

@@ -4,5 +4,6 @@ pub mod Letters
 pub mod Faults
 pub mod Chain
 pub mod Decoded
+pub mod Drafts
 pub mod Steps
 pub mod Laws

@@ -46,12 +46,12 @@ impl From<RowFault> for TableFault {
     }
 }
 
-impl RowFault {
-    // The number and place of a row's fault.
-    pub fn refusal(self) -> Refusal
-        ensures { result ≡ of_row self }
-    {
-        let (number, row) = match self {
+// The number and place of a row's fault.
+impl From<RowFault> for Refusal {
+    ghost from_gives = { λ x r. r ≡ of_row x };
+
+    fn from(fault: RowFault) -> Refusal {
+        let (number, row) = match fault {
             RowFault::Letter(row) => (4, row),
             RowFault::Field(row) => (5, row),
             RowFault::Operand(row) => (6, row),
@@ -64,16 +64,16 @@ impl RowFault {
     }
 }
 
-impl TableFault {
-    // The number and place of a table's fault: a row's keeps its own.
-    pub fn refusal(self) -> Refusal
-        ensures { result ≡ of_table self }
-    {
-        let number = match self {
+// The number and place of a table's fault: a row's keeps its own.
+impl From<TableFault> for Refusal {
+    ghost from_gives = { λ x r. r ≡ of_table x };
+
+    fn from(fault: TableFault) -> Refusal {
+        let number = match fault {
             TableFault::Length => 1,
             TableFault::Mark => 2,
             TableFault::Head => 3,
-            TableFault::Row(fault) => return fault.refusal(),
+            TableFault::Row(fault) => return fault.into(),
             TableFault::NoRule => 11,
         };
         Refusal::new(number, 0)

@@ -12,11 +12,12 @@ ghost use Rattle.table.specs.Laws.{RowsFit, TablesTold};
 ghost use Rattle.table.specs.Decoded.{Decoded};
 ghost use Rattle.table.specs.Chain.{right_head, table_refusal};
 
+mod draft;
 pub mod fault;
 mod row;
 
+use draft::Draft;
 use fault::{RowFault, TableFault};
-use mitl::Row;
 use plan::build;
 use plan::plan::Plan;
 use window::Admission;
@@ -44,7 +45,7 @@ fn open(bytes: &[u8]) -> Result<Head, TableFault>
     let [m3, m2, m1, m0, told, first, z1, z0, rows @ ..] = bytes else {
         return Err(TableFault::Length);
     };
-    if !(*m3 == 0x4c && *m2 == 0x57 && *m1 == 0x52 && *m0 == 0x54) {
+    if [*m3, *m2, *m1, *m0] != *b"LWRT" {
         return Err(TableFault::Mark);
     }
     let head = Head {
@@ -60,35 +61,19 @@ fn open(bytes: &[u8]) -> Result<Head, TableFault>
     Ok(head)
 }
 
-// The rows of a chain from the front of `rows`, and their numbers.
-#[derive(Clone, Copy)]
-struct Draft {
-    rows: [Row; 64],
-    numbers: [u8; 64],
-    count: usize,
-}
-
 // The rows along the chain, or their first fault.
 fn walk<A: Admission>(bytes: &[u8], head: Head) -> Result<Draft, RowFault>
     requires { Opened bytes.now (Ok head) }
     ensures { Walked A.admitted bytes.now result }
 {
-    let mut rows = [Row::Input { bit: 0 }; 64];
-    let mut numbers = [0; 64];
-    let mut count = 0;
-    let mut at = head.first;
-    while at != 0 {
-        let step = row::take::<A>(bytes, head.told, &numbers[..count], &rows[..count], at)?;
-        rows[count] = step.row;
-        numbers[count] = at;
-        count += 1;
-        at = step.next;
+    let mut draft = Draft::new();
+    let mut next = Some(head.first);
+    while let Some(at) = next {
+        let step = row::take::<A>(bytes, head.told, &draft, at)?;
+        draft.push(step.row, at);
+        next = step.next;
     }
-    Ok(Draft {
-        rows,
-        numbers,
-        count,
-    })
+    Ok(draft)
 }
 
 // The plan of a table for memories that admit these windows, or the table's refusal.
@@ -97,10 +82,7 @@ pub fn decode<A: Admission>(bytes: &[u8]) -> Result<Plan, TableFault>
 {
     let head = open(bytes)?;
     let draft = walk::<A>(bytes, head)?;
-    match build(draft.rows, draft.numbers, draft.count) {
-        Some(plan) => Ok(plan),
-        None => Err(TableFault::NoRule),
-    }
+    build(draft.rows, draft.numbers, draft.count).ok_or(TableFault::NoRule)
 }
 
 // Admits every window: for reading a table without a memory kind.

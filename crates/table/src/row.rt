@@ -1,16 +1,18 @@
 //! One row of a table: its fields, and what is wrong with it.
-ghost use Rattle.std.specs.Prelude.{◌≡◌, ℕ, ◌+◌, ◌<◌, ◌≤◌, true, false, not, ◌&&◌, ◌||◌, length, is_some, if◌then◌else◌, Some, ◌==◌, nat_lt};
-ghost use Rattle.mitl.specs.Rows.{is_rule};
+ghost use Rattle.std.specs.Prelude.{◌≡◌, ℕ, ◌+◌, ◌<◌, ◌≤◌, true, false, not, ◌&&◌, ◌||◌, length, is_some, ◌==◌, nat_lt};
+ghost use Rattle.std.specs.Result.{result_ok};
 ghost use Rattle.mitl.specs.Windows.{sound_window};
 ghost use Rattle.plan.specs.Places.{place_among_lem};
-ghost use Rattle.table.specs.Faults.{operand_place, rule_used, row_with_lem};
+ghost use Rattle.table.specs.Drafts.{taken_rows, taken_numbers};
+ghost use Rattle.table.specs.Faults.{rule_used};
 ghost use Rattle.table.specs.Layout.{fields_from, fields_of, row_start};
-ghost use Rattle.table.specs.Steps.{Meant, Judged, Stepped};
+ghost use Rattle.table.specs.Steps.{Meant, Judged, Stepped, named};
 ghost use Rattle.table.specs.Letters.{letter_from, left_used, right_used, window_used, rule_letter, number_end_lem, well_filled_lem};
 
+use crate::draft::Draft;
 use crate::fault::RowFault;
 use mitl::Row;
-use plan::{is_rule, is_sound_window, place_among};
+use plan::is_sound_window;
 use window::Admission;
 
 // The letter of a row.
@@ -34,7 +36,7 @@ pub struct Fields {
     pub left: u8,
     pub right: u8,
     pub next: u8,
-    // the three zero bytes are zero
+    // The three zero bytes are zero: a test and not the bytes, since nothing else is asked of them.
     pub blank: bool,
     pub a: u32,
     pub b: u32,
@@ -78,24 +80,31 @@ fn apart(part: &[u8]) -> Fields
     }
 }
 
-impl Letter {
-    // The letter that a byte stands for.
-    fn of(c: char) -> Option<Letter>
-        ensures { result ≡ letter_from c }
-    {
+// A character that is no letter of a row.
+#[derive(Clone, Copy)]
+pub struct UnknownLetter;
+
+impl TryFrom<char> for Letter {
+    type Error = UnknownLetter;
+
+    ghost try_from_gives = { λ c r. result_ok r ≡ letter_from c };
+
+    fn try_from(c: char) -> Result<Letter, UnknownLetter> {
         match c {
-            'P' => Some(Letter::P),
-            'N' => Some(Letter::N),
-            'A' => Some(Letter::A),
-            'O' => Some(Letter::O),
-            'D' => Some(Letter::D),
-            'B' => Some(Letter::B),
-            'S' => Some(Letter::S),
-            'R' => Some(Letter::R),
-            _ => None,
+            'P' => Ok(Letter::P),
+            'N' => Ok(Letter::N),
+            'A' => Ok(Letter::A),
+            'O' => Ok(Letter::O),
+            'D' => Ok(Letter::D),
+            'B' => Ok(Letter::B),
+            'S' => Ok(Letter::S),
+            'R' => Ok(Letter::R),
+            _ => Err(UnknownLetter),
         }
     }
+}
 
+impl Letter {
     fn uses_left(self) -> bool
         ensures { result ≡ left_used self }
     {
@@ -141,179 +150,148 @@ impl Fields {
         let start = 8 + 16 * (row as usize - 1);
         apart(&bytes[start..start + 16])
     }
+}
 
+// A row with a known letter.
+#[derive(Clone, Copy)]
+pub struct Entry {
+    pub letter: Letter,
+    pub fields: Fields,
+}
+
+impl Entry {
     // The number in its range, and each unused field and the zero bytes zero.
-    fn well_filled(self, letter: Letter) -> bool
-        ensures { result ≡ well_filled_lem letter self }
+    fn is_well_filled(self) -> bool
+        ensures { result ≡ well_filled_lem self.letter self.fields }
     {
-        self.number < letter.number_end()
-            && (letter.uses_left() || self.left == 0)
-            && (letter.uses_right() || self.right == 0)
-            && (letter.uses_window() || (self.a == 0 && self.b == 0))
-            && self.blank
+        let Entry { letter, fields } = self;
+        fields.number < letter.number_end()
+            && (letter.uses_left() || fields.left == 0)
+            && (letter.uses_right() || fields.right == 0)
+            && (letter.uses_window() || (fields.a == 0 && fields.b == 0))
+            && fields.blank
     }
-}
 
-// The place of an operand: a row before that is no rule.
-fn operand(numbers: &[u8], rows: &[Row], number: u8) -> Option<u8>
-    requires { (length numbers.now ≡ length rows.now) × (length rows.now ≤ 64) }
-    ensures { result ≡ operand_place numbers.now rows.now number }
-{
-    let place = place_among(numbers, number)?;
-    if is_rule(rows[place]) {
-        None
-    } else {
-        Some(place as u8)
+    // Whether the memory kind refuses its window: the one place where a kind is asked.
+    fn is_refused<A: Admission>(self) -> bool
+        ensures { result ≡ (window_used self.letter && not (A.admitted self.fields.a self.fields.b)) }
+    {
+        self.letter.uses_window() && !A::admits(self.fields.a, self.fields.b)
     }
-}
 
-// The same where the operand is used, and else 0.
-fn operand_if(used: bool, numbers: &[u8], rows: &[Row], number: u8) -> Option<u8>
-    requires { (length numbers.now ≡ length rows.now) × (length rows.now ≤ 64) }
-    ensures { result ≡ (if used then operand_place numbers.now rows.now number else Some 0) }
-{
-    if used {
-        operand(numbers, rows, number)
-    } else {
-        Some(0)
+    // Whether it is timed and has no window that a table may have.
+    fn has_no_window(self) -> bool
+        ensures { result ≡ (window_used self.letter && not (sound_window self.fields.a self.fields.b)) }
+    {
+        self.letter.uses_window() && !is_sound_window(self.fields.a, self.fields.b)
     }
-}
 
-// Whether a row before is rule `number`.
-fn has_used(rows: &[Row], number: u8) -> bool
-    ensures { result ≡ rule_used rows.now number }
-{
-    for k in 0..rows.len() {
-        if is_the_rule(rows[k], number) {
-            return true;
+    // Whether it is a rule whose number has been used.
+    fn is_used_rule(self, draft: &Draft) -> bool
+        ensures { result ≡ (rule_letter self.letter && rule_used (taken_rows draft.now) self.fields.number) }
+    {
+        self.letter.is_rule() && draft.has_rule(self.fields.number)
+    }
+
+    // Whether its next is no row that may come: above `told`, row `at` itself, or a row that was taken.
+    fn has_no_next(self, draft: &Draft, told: u8, at: u8) -> bool
+        ensures { result ≡ (nat_lt told self.fields.next || (self.fields.next == at || is_some (place_among_lem (taken_numbers draft.now) self.fields.next))) }
+    {
+        let next = self.fields.next;
+        next > told || next == at || draft.has(next)
+    }
+
+    // The row that is to come next: none where the number is zero.
+    fn next(self) -> Option<u8>
+        ensures { result ≡ named self.fields.next }
+    {
+        match self.fields.next {
+            0 => None,
+            row => Some(row),
         }
     }
-    false
-}
 
-// Whether a row is rule i.
-fn is_the_rule(row: Row, i: u8) -> bool
-    ensures { result ≡ is_rule i row }
-{
-    match row {
-        Row::Rule { number, .. } => i == number,
-        _ => false,
+    // What it says, if its operands are rows that were taken and are no rules.
+    fn meant(self, draft: &Draft) -> Option<Row>
+        ensures { Meant draft.now self result }
+    {
+        let Fields { number, a, b, .. } = self.fields;
+        let left = draft.operand(self.fields.left);
+        let right = draft.operand(self.fields.right);
+        let row = match self.letter {
+            Letter::P => Row::Input { bit: number },
+            Letter::N => Row::Not { left: left? },
+            Letter::A => Row::And {
+                left: left?,
+                right: right?,
+            },
+            Letter::O => Row::Or {
+                left: left?,
+                right: right?,
+            },
+            Letter::D => Row::Once { left: left?, a, b },
+            Letter::B => Row::Always { left: left?, a, b },
+            Letter::S => Row::Since {
+                left: left?,
+                right: right?,
+                a,
+                b,
+            },
+            Letter::R => Row::Rule {
+                number,
+                left: left?,
+            },
+        };
+        Some(row)
     }
-}
 
-// Whether the memory kind refuses the window of a row: the one place where a kind is asked.
-fn is_refused<A: Admission>(letter: Letter, fields: Fields) -> bool
-    ensures { result ≡ (window_used letter && not (A.admitted fields.a fields.b)) }
-{
-    letter.uses_window() && !A::admits(fields.a, fields.b)
-}
-
-// Whether a timed row has no window that a table may have.
-fn is_no_window(letter: Letter, fields: Fields) -> bool
-    ensures { result ≡ (window_used letter && not (sound_window fields.a fields.b)) }
-{
-    letter.uses_window() && !is_sound_window(fields.a, fields.b)
-}
-
-// Whether a rule's number has been used.
-fn is_used_rule(letter: Letter, fields: Fields, rows: &[Row]) -> bool
-    ensures { result ≡ (rule_letter letter && rule_used rows.now fields.number) }
-{
-    letter.is_rule() && has_used(rows, fields.number)
-}
-
-// Whether the row that is to come next is none: above `told`, the row `at` itself, or a row before.
-fn is_no_next(next: u8, told: u8, at: u8, numbers: &[u8]) -> bool
-    ensures { result ≡ (nat_lt told next || (next == at || is_some (place_among_lem numbers.now next))) }
-{
-    next > told || next == at || place_among(numbers, next).is_some()
-}
-
-// What a row says, with the places of its operands.
-fn row_with(letter: Letter, fields: Fields, left: u8, right: u8) -> Row
-    ensures { result ≡ row_with_lem letter fields left right }
-{
-    let Fields { number, a, b, .. } = fields;
-    match letter {
-        Letter::P => Row::Input { bit: number },
-        Letter::N => Row::Not { left },
-        Letter::A => Row::And { left, right },
-        Letter::O => Row::Or { left, right },
-        Letter::D => Row::Once { left, a, b },
-        Letter::B => Row::Always { left, a, b },
-        Letter::S => Row::Since { left, right, a, b },
-        Letter::R => Row::Rule { number, left },
+    // What it says as row `at`, or its first fault; `told` is the table's row count.
+    fn judged<A: Admission>(self, draft: &Draft, told: u8, at: u8) -> Result<Row, RowFault>
+        ensures { Judged A.admitted told draft.now at self result }
+    {
+        if !self.is_well_filled() {
+            return Err(RowFault::Field(at));
+        }
+        let row = self.meant(draft).ok_or(RowFault::Operand(at))?;
+        if self.has_no_window() {
+            return Err(RowFault::Window(at));
+        }
+        if self.is_used_rule(draft) {
+            return Err(RowFault::Used(at));
+        }
+        if self.is_refused::<A>() {
+            return Err(RowFault::Limit(at));
+        }
+        if self.has_no_next(draft, told, at) {
+            return Err(RowFault::Next(at));
+        }
+        Ok(row)
     }
-}
-
-// What a row says, if its operands are rows before that are no rules.
-fn meant(letter: Letter, fields: Fields, numbers: &[u8], rows: &[Row]) -> Option<Row>
-    requires { (length numbers.now ≡ length rows.now) × (length rows.now ≤ 64) }
-    ensures { Meant numbers.now rows.now letter fields result }
-{
-    let left = operand_if(letter.uses_left(), numbers, rows, fields.left)?;
-    let right = operand_if(letter.uses_right(), numbers, rows, fields.right)?;
-    Some(row_with(letter, fields, left, right))
-}
-
-// What row `at` with this letter says, or its first fault; `told` is the table's row count.
-fn judged<A: Admission>(
-    letter: Letter,
-    fields: Fields,
-    told: u8,
-    numbers: &[u8],
-    rows: &[Row],
-    at: u8,
-) -> Result<Row, RowFault>
-    requires { (length numbers.now ≡ length rows.now) × (length rows.now ≤ 64) }
-    ensures { Judged A.admitted told numbers.now rows.now at letter fields result }
-{
-    if !fields.well_filled(letter) {
-        return Err(RowFault::Field(at));
-    }
-    let Some(row) = meant(letter, fields, numbers, rows) else {
-        return Err(RowFault::Operand(at));
-    };
-    if is_no_window(letter, fields) {
-        return Err(RowFault::Window(at));
-    }
-    if is_used_rule(letter, fields, rows) {
-        return Err(RowFault::Used(at));
-    }
-    if is_refused::<A>(letter, fields) {
-        return Err(RowFault::Limit(at));
-    }
-    if is_no_next(fields.next, told, at, numbers) {
-        return Err(RowFault::Next(at));
-    }
-    Ok(row)
 }
 
 // A row that was taken, and the number of the next.
 #[derive(Clone, Copy)]
 pub struct Step {
     pub row: Row,
-    pub next: u8,
+    pub next: Option<u8>,
 }
 
-// Row `at` of the table, or its first fault; `numbers` and `rows` are those before it on the chain.
+// Row `at` of the table after the rows of the draft, or its first fault; `told` is the table's row count.
 pub(crate) fn take<A: Admission>(
     bytes: &[u8],
     told: u8,
-    numbers: &[u8],
-    rows: &[Row],
+    draft: &Draft,
     at: u8,
 ) -> Result<Step, RowFault>
-    requires { (1 ≤ at) × (row_start at + 16 ≤ length bytes.now) × (length numbers.now ≡ length rows.now) × (length rows.now ≤ 64) }
-    ensures { Stepped A.admitted told numbers.now rows.now bytes.now at result }
+    requires { (1 ≤ at) × (row_start at + 16 ≤ length bytes.now) }
+    ensures { Stepped A.admitted told draft.now bytes.now at result }
 {
     let fields = Fields::of_row(bytes, at);
-    let Some(letter) = Letter::of(fields.letter) else {
-        return Err(RowFault::Letter(at));
-    };
-    let row = judged::<A>(letter, fields, told, numbers, rows, at)?;
+    let letter = Letter::try_from(fields.letter).map_err(|_| RowFault::Letter(at))?;
+    let entry = Entry { letter, fields };
+    let row = entry.judged::<A>(draft, told, at)?;
     Ok(Step {
         row,
-        next: fields.next,
+        next: entry.next(),
     })
 }

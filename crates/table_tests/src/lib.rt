@@ -5,6 +5,7 @@
 ghost use Rattle.std.specs.Prelude.{nat_le};
 
 use mitl::Row;
+use refusal::Refusal;
 use table::{decode, decode_any};
 use window::Admission;
 
@@ -295,7 +296,7 @@ fn reply<A: Admission>(bytes: &[u8]) -> (u32, u32) {
     match decode::<A>(bytes) {
         Ok(_) => (0, 0),
         Err(fault) => {
-            let refusal = fault.refusal();
+            let refusal = Refusal::from(fault);
             (refusal.number, refusal.place)
         }
     }
@@ -326,19 +327,16 @@ fn said(row: Row) -> [u32; 6] {
 // Sixty-four rows whose chain goes from the last to the first: an input, denials of the row before, a rule.
 fn longest() -> [u8; 1032] {
     let mut bytes = [0; 1032];
-    bytes[0] = 0x4c;
-    bytes[1] = 0x57;
-    bytes[2] = 0x52;
-    bytes[3] = 0x54;
-    bytes[4] = 64;
-    bytes[5] = 64;
-    for i in 0..64u8 {
-        let start = 8 + 16 * (i as usize);
-        bytes[start] = if i == 63 { b'P' } else { b'N' };
-        bytes[start + 2] = if i == 63 { 0 } else { i + 2 };
-        bytes[start + 4] = i;
+    bytes[..6].copy_from_slice(b"LWRT\x40\x40");
+    let (rows, _) = bytes[8..].as_chunks_mut::<16>();
+    for ((row, next), left) in rows.iter_mut().zip(0..64).zip(2..66) {
+        row[0] = b'N';
+        row[2] = left;
+        row[4] = next;
     }
     bytes[8] = b'R';
+    bytes[1016] = b'P';
+    bytes[1018] = 0;
     bytes
 }
 

@@ -163,7 +163,7 @@ fn print_table(rt: &HostRuntime, bytes: &[u8]) -> io::Result<()> {
     match decode_any(bytes) {
         Ok(plan) => print_plan(rt, &plan),
         Err(fault) => {
-            let Refusal { number, place } = fault.refusal();
+            let Refusal { number, place } = Refusal::from(fault);
             let words = reason(fault);
             println!(rt; "refusal {number} at {place}: {words}")
         }

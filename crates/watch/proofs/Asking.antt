@@ -1,20 +1,21 @@
 -- What a watch that keeps a book shows. Assumes nothing.
-use Rattle.std.proofs.Common.{◌≡◌, ℕ, ◌+◌, ◌-◌, ◌*◌, ◌<◌, ◌≤◌, min, true, cond, not, ◌⊎◌, List, length, get_or, drop, is_some, Some, None, Option, sym, refl, ap, ◌∙◌, subst, ap₂, inl, inr, mul-le-mul_right, arith}
+use Rattle.std.proofs.Common.{◌≡◌, ℕ, ◌+◌, ◌-◌, ◌*◌, ◌<◌, ◌≤◌, min, true, cond, not, ◌⊎◌, List, length, get_or, drop, is_some, Some, None, Ok, Err, Option, sym, refl, ap, ◌∙◌, subst, ap₂, inl, inr, mul-le-mul_right, arith}
 use Rattle.std.proofs.lemmas.List.{get_or-take, get_or-drop}
 use Rattle.std.proofs.lemmas.Bool.{cond-true, cond-false, not_from_true, not_from_false}
+use Rattle.std.specs.Option.{ok_or}
 use Rattle.mitl.specs.declared.Row.{Row}
 use Rattle.mitl.specs.Blocks.{row_looked}
 use Rattle.mitl.specs.Memory.{Meaning, counted}
 use Rattle.mitl.specs.Rows.{row_at, is_timed, timed_before, timed_rows}
 use Rattle.refusal.specs.Faults.{refusal, first_fault}
 use Rattle.record.specs.declared.Car.{Car}
+use Rattle.record.specs.Cars.{no_car, car_place}
 use Rattle.plan.specs.Rows.{rows_of, numbers_of}
 use Rattle.plan.specs.Places.{place_among_lem}
 use Rattle.table.specs.Chain.{rows_in, numbers_in}
 use Rattle.engine.specs.Means.{Means}
 use Rattle.engine.proofs.Plans.{used_most, timed_past}
-use Rattle.cars.specs.Cars.{no_car, listed, place_of, cars_of}
-use Rattle.cars.specs.Refusals.{car_place}
+use Rattle.cars.specs.Cars.{listed, place_of, cars_of}
 use Rattle.cars.proofs.Places.{place_listed, place_in}
 use Rattle.memories.specs.declared.Shown.{Shown}
 use Rattle.memories.specs.Parts.{part_at, Indexed}
@@ -24,12 +25,21 @@ use Rattle.book.proofs.After.{timed_on}
 use Rattle.watch.specs.Keeping.{Held, Keeps}
 use Rattle.watch.specs.Replies.{timed_only}
 
+-- what a search did not find, told by its fault, and what it found
+pub missing : {T E : Type 0} (o p : Option T) (e x : E) → o ≡ p → Err x ≡ ok_or o e → (p ≡ None) × (x ≡ e)
+missing None p e x is told = (sym is, cc)
+missing (Some t) p e x is told = cc
+
+pub there : {T E : Type 0} (o p : Option T) (e : E) (t : T) → o ≡ p → Ok t ≡ ok_or o e → p ≡ Some t
+there None p e t is told = cc
+there (Some s) p e t is told = cc
+
 module _ {M : Type 0} (meaning : M → Meaning) (room : ℕ) (w : Held M) (k : Book) (keeps : Keeps meaning room w k) (c : Car) where
   abbrev found : Option ℕ
   found = place_of (cars_of w.inner.cars) c
 
   pub listed_is : is_some found ≡ listed k.cars c
-  listed_is = place_listed 0 (cars_of w.inner.cars) c ∙ ap (λ cs. listed cs c) keeps.cars
+  listed_is = place_listed (cars_of w.inner.cars) c ∙ ap (λ cs. listed cs c) keeps.cars
 
   module _ (at : ℕ) (is : found ≡ Some at) where
     pub in_list : listed k.cars c ≡ true

@@ -1,5 +1,5 @@
 -- A record is taken by a watch that keeps a book. Assumes nothing.
-use Rattle.std.proofs.Common.{◌≡◌, ℕ, ◌<◌, min, Bool, true, false, cond, not, ◌&&◌, ◌||◌, eqb, ◌⊎◌, List, [], ◌∷◌, ◌++◌, map, length, get_or, take, drop, replicate, is_some, Some, None, Ok, Err, Option, Result, sym, refl, ap, ◌∙◌, subst, ap₂, inl, inr, arith}
+use Rattle.std.proofs.Common.{◌≡◌, ℕ, ◌<◌, min, Bool, true, false, cond, not, ◌&&◌, ◌||◌, eqb, ◌⊎◌, List, [], ◌∷◌, ◌++◌, map, length, get_or, take, drop, replicate, is_some, Some, None, Ok, Err, Option, Result, sym, refl, ap, ◌∙◌, subst, ap₂, inl, inr}
 use mathlib.Core.Path.{fun_ext}
 use lib.ListN.{length-map}
 use lib.Seq.{take-append_seam}
@@ -18,6 +18,8 @@ use Rattle.record.specs.declared.Car.{Car}
 use Rattle.record.specs.declared.Note.{Note}
 use Rattle.record.specs.declared.Record.{Record}
 use Rattle.record.specs.Layout.{is_R, is_I, is_E, is_V, known, fields_at, field_faults, zero_fault}
+use Rattle.record.specs.Cars.{same_car, no_car, car_place}
+use Rattle.record.proofs.Cars.{same_self, same_is}
 use Rattle.plan.specs.Rows.{rows_of}
 use Rattle.engine.specs.declared.Fed.{Fed}
 use Rattle.engine.specs.Means.{Means}
@@ -27,15 +29,14 @@ use Rattle.cars.specs.declared.CarState.{CarState}
 use Rattle.cars.specs.declared.CarState.TheVariants.{Running, Ended}
 use Rattle.cars.specs.declared.CarTable.{CarTable}
 use Rattle.cars.specs.declared.FeedFault.{FeedFault}
-use Rattle.cars.specs.Cars.{same_car, no_car, no_slot, listed, place_of, cars_of, state_at}
+use Rattle.cars.specs.Cars.{no_slot, listed, place_of, cars_of, state_at}
 use Rattle.cars.specs.Moves.{is_running, moved, record_refusal, Recorded}
-use Rattle.cars.specs.Refusals.{car_place, of_feed}
-use Rattle.cars.proofs.Places.{place_in, car_at, length_cars}
+use Rattle.cars.specs.Refusals.{of_feed}
+use Rattle.cars.proofs.Places.{car_found}
 use Rattle.memories.specs.Parts.{part_at, OnlyPart, CarCleared, CarFed}
 use Rattle.memories.proofs.Lent.{other_part, same_only}
 use Rattle.book.specs.Book.{Book, with_car, noted, rows_of_book, due_runs, due_notes, restarted, finished, judged}
 use Rattle.book.specs.Calls.{feed_faults, car_faults}
-use Rattle.book.proofs.Spoken.{same_self, same_is}
 use Rattle.watch.specs.Keeping.{Held, held, Keeps}
 use Rattle.watch.specs.Replies.{bytes_faults}
 use Rattle.watch.proofs.Asking.{listed_is, in_list, place_is, some_cars, part_means}
@@ -72,16 +73,16 @@ three l c in_list s places =
 
 -- what the state machine refuses is the first of them
 refused_18 : (l : ℕ) (c : Car) (s : CarState) (places : ℕ) (r : Refusal) → Lettered l → moved c s l ≡ Err r → first_fault (three l c true s places) ≡ Some r
-refused_18 l c s places r (inl is) e = let z : ◌≡◌ {A = Result CarState Refusal} (Ok Running) (Err r) = sym (ap (moved c s) is) ∙ e in let n : ◌≡◌ {A = ℕ} 0 1 = cc in absurd (omega arith)
+refused_18 l c s places r (inl is) e = let z : ◌≡◌ {A = Result CarState Refusal} (Ok Running) (Err r) = sym (ap (moved c s) is) ∙ e in cc
 refused_18 l c s places r (inr (inl is)) e = ap (λ x. first_fault (three x c true s places)) is ∙ go (is_running s) (sym (ap (moved c s) is) ∙ e)
   where
     go : (b : Bool) → cond b (Ok s) (Err (refusal 18 (car_place c))) ≡ Err r → cond (not b) (Some (refusal 18 (car_place c))) (cond (true && eqb places 0) (Some (refusal 19 0)) None) ≡ Some r
-    go true f = let n : ◌≡◌ {A = ℕ} 0 1 = cc in absurd (omega arith)
+    go true f = cc
     go false f = cc
 refused_18 l c s places r (inr (inr is)) e = ap (λ x. first_fault (three x c true s places)) is ∙ go (is_running s) (sym (ap (moved c s) is) ∙ e)
   where
     go : (b : Bool) → cond b (Ok Ended) (Err (refusal 18 (car_place c))) ≡ Err r → cond (not b) (Some (refusal 18 (car_place c))) None ≡ Some r
-    go true f = let n : ◌≡◌ {A = ℕ} 0 1 = cc in absurd (omega arith)
+    go true f = cc
     go false f = cc
 
 -- what it takes has at most the third
@@ -93,13 +94,13 @@ taken_18 l c s s' places (inr (inl is)) e =
     go : (b : Bool) → cond b (Ok s) (Err (refusal 18 (car_place c))) ≡ Ok s'
         → cond (not b) (Some (refusal 18 (car_place c))) (cond (true && eqb places 0) (Some (refusal 19 0)) None) ≡ cond (true && eqb places 0) (Some (refusal 19 0)) None
     go true f = refl
-    go false f = let n : ◌≡◌ {A = ℕ} 0 1 = cc in absurd (omega arith)
+    go false f = cc
 taken_18 l c s s' places (inr (inr is)) e =
     ap (λ x. first_fault (three x c true s places)) is ∙ go (is_running s) (sym (ap (moved c s) is) ∙ e) ∙ ap (λ x. cond (is_I x && eqb places 0) (Some (refusal 19 0)) None) (sym is)
   where
     go : (b : Bool) → cond b (Ok Ended) (Err (refusal 18 (car_place c))) ≡ Ok s' → cond (not b) (Some (refusal 18 (car_place c))) None ≡ None
     go true f = refl
-    go false f = let n : ◌≡◌ {A = ℕ} 0 1 = cc in absurd (omega arith)
+    go false f = cc
 
 module _ {M : Type 0} (meaning : M → Meaning) (room : ℕ) (w : Held M) (k : Book) (keeps : Keeps meaning room w k) (r : Record) (places : ℕ) (letter : Lettered r.letter) where
   abbrev c : Car
@@ -121,7 +122,7 @@ module _ {M : Type 0} (meaning : M → Meaning) (room : ℕ) (w : Held M) (k : B
         where
           part : (x : Result CarState Refusal) → moved c (state_at w.inner.cars at) r.letter ≡ x → result_err x ≡ Some (of_feed e)
               → first_fault (three r.letter c true (state_at w.inner.cars at) places) ≡ Some (of_feed e)
-          part (Ok s) m f = let n : ◌≡◌ {A = ℕ} 0 1 = cc in absurd (omega arith)
+          part (Ok s) m f = cc
           part (Err q) m f = refused_18 r.letter c (state_at w.inner.cars at) places q letter m ∙ f
 
   module _ (t' : CarTable) (at : ℕ) (told : Recorded w.inner.cars c r.letter t' (Ok at)) where
@@ -131,14 +132,8 @@ module _ {M : Type 0} (meaning : M → Meaning) (room : ℕ) (w : Held M) (k : B
     abbrev s' : CarState
     s' = state_at t' at
 
-    own_car : (get_or w.inner.cars.slots at no_slot).car ≡ c
-    own_car =
-        let t = w.inner.cars in
-        let p = place_in (cars_of t) c at told.0 in
-        sym (car_at t at (omega (arith, p.0, length_cars t)) (omega (arith, p.0, length_cars t))) ∙ p.1
-
     pub moved_to : moved c s r.letter ≡ Ok s'
-    moved_to = ap (λ d. moved d s r.letter) (sym own_car) ∙ told.1.there.0
+    moved_to = ap (λ d. moved d s r.letter) (sym (car_found w.inner.cars c at told.0)) ∙ told.1.there.0
 
     pub no_place_only : first_fault (car_faults k r places) ≡ cond (is_I r.letter && eqb places 0) (Some (refusal 19 0)) None
     no_place_only = faults_are at told.0 ∙ taken_18 r.letter c s s' places letter moved_to
@@ -217,7 +212,7 @@ module _ {M : Type 0} (meaning : M → Meaning) (room : ℕ) (w : Held M) (k : B
       where
         ended : (b : Bool) → cond b (Ok Ended) (Err (refusal 18 (car_place c))) ≡ Ok s' → s' ≡ Ended
         ended true e = cc
-        ended false e = let n : ◌≡◌ {A = ℕ} 0 1 = cc in absurd (omega arith)
+        ended false e = cc
 
     -- after inputs
     module _ (is : r.letter ≡ 73) where

@@ -5,4 +5,3 @@ pub mod Asking
 pub mod Feeding
 pub mod Taking
 pub mod Promised
-pub mod Stays

@@ -1,16 +1,14 @@
 -- The promise, from the calls' steps. Assumes nothing.
-use Rattle.std.proofs.Common.{◌≡◌, ℕ, ◌<◌, Bool, true, List, [], ◌∷◌, length, refl, subst, arith}
+use Rattle.std.proofs.Common.{◌≡◌, ℕ, ◌<◌, Bool, true, List, [], ◌∷◌, length, subst, arith}
 use Rattle.std.proofs.lemmas.Bool.{false≢true}
 use Rattle.mitl.specs.Memory.{Meaning}
 use Rattle.mitl.specs.Rows.{Chained}
 use Rattle.record.specs.declared.Car.{Car}
 use Rattle.engine.proofs.Plans.{used_chained}
-use Rattle.cars.specs.Cars.{listed, Filled}
-use Rattle.cars.proofs.Places.{cars_filled}
+use Rattle.cars.specs.Cars.{listed}
 use Rattle.book.specs.Book.{Book, rows_of_book}
 use Rattle.book.proofs.After.{after_any_list, kinds_agree}
-use Rattle.watch.specs.declared.inner.Inner.{Inner}
-use Rattle.watch.specs.Keeping.{Held, held, Keeps, Fresh}
+use Rattle.watch.specs.Keeping.{Held, Keeps}
 use Rattle.watch.specs.Promised.{Promise, BothEnds}
 
 some : (cs : List Car) (c : Car) → listed cs c ≡ true → 0 < length cs
@@ -25,18 +23,6 @@ module _ {M : Type 0} (meaning : M → Meaning) where
 
   pub promise : (admitted : ℕ → ℕ → Bool) → Promise meaning admitted
   promise admitted room = after_any_list admitted room (Keeps meaning room) (chained room)
-
-  pub fresh : (inner : Inner) (ms : List M) → Filled [] 0 inner.cars → Fresh meaning (held inner ms)
-  fresh inner ms filled = record {
-    rows = λ lt. absurd (omega arith);
-    numbers = λ lt. absurd (omega arith);
-    cars = cars_filled [] 0 inner.cars (omega arith) (omega arith) filled;
-    apart = λ i j lt. absurd (omega arith);
-    states = λ i lt. absurd (omega arith);
-    size = refl;
-    enough = omega arith;
-    means = λ i lt. absurd (omega arith);
-  }
 
 pub both_ends : {M N : Type 0} (meaning : M → Meaning) (admitted : ℕ → ℕ → Bool) (meaning' : N → Meaning) (admitted' : ℕ → ℕ → Bool) → BothEnds meaning admitted meaning' admitted'
 both_ends meaning admitted meaning' admitted' room room' = kinds_agree admitted room (Keeps meaning room) admitted' room' (Keeps meaning' room')

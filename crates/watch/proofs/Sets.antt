@@ -9,14 +9,15 @@ use Rattle.refusal.specs.Faults.{fault, first_fault}
 use Rattle.refusal.proofs.Firsts.{none_parts}
 use Rattle.refusal.proofs.Held.{none_parts as none_both, off_counted}
 use Rattle.record.specs.declared.Car.{Car}
+use Rattle.record.specs.Cars.{same_car, no_car}
+use Rattle.record.proofs.Cars.{same_self}
 use Rattle.table.specs.Chain.{rows_in, table_faults, table_refusal}
 use Rattle.table.specs.Decoded.{PlanOf}
-use Rattle.cars.specs.Cars.{same_car, no_car, listed, wrong_car, position_faults, list_faults, Filled, cars_of}
+use Rattle.cars.specs.Cars.{listed, wrong_car, position_faults, list_faults, Filled, cars_of}
 use Rattle.cars.proofs.Places.{cars_filled}
 use Rattle.memories.specs.Parts.{Prepared, Admitted}
 use Rattle.book.specs.Book.{started}
 use Rattle.book.specs.Calls.{set_faults}
-use Rattle.book.proofs.Spoken.{same_self}
 use Rattle.watch.specs.declared.inner.Inner.{Inner}
 use Rattle.watch.specs.Keeping.{held, Keeps}
 use Rattle.watch.proofs.Setting.{all_admitted, few_cars}

@@ -1,14 +1,13 @@
 -- Set's faults, layer by layer. Assumes nothing.
 use Rattle.std.proofs.Common.{◌≡◌, ℕ, ◌*◌, ◌<◌, ◌≤◌, Bool, true, false, not, ◌&&◌, ltb, leb, List, [], ◌∷◌, ◌++◌, length, Some, None, Option, sym, ap, ◌∙◌, subst, mul-le-mul, arith}
 use Rattle.std.proofs.lemmas.List.FromFn.{length-map-range_with_len, get_or-map-range_with_len}
-use Rattle.std.proofs.lemmas.List.{get_or_past}
 use Rattle.std.proofs.lemmas.Bool.{lt-ltb, le-ltb, cond-true, cond-false, and_parts, not-false, leb-true, false≢true}
 use Rattle.mitl.specs.declared.Row.{Row}
 use Rattle.mitl.specs.declared.Row.TheVariants.{Input}
 use Rattle.mitl.specs.Rows.{row_at, is_timed, timed_rows}
 use Rattle.plan.specs.declared.plan.Plan.{Plan}
 use Rattle.plan.specs.Rows.{rows_of}
-use Rattle.engine.proofs.Plans.{used_row, used_most, timed_most}
+use Rattle.engine.proofs.Plans.{used_most, timed_most}
 use Rattle.refusal.specs.declared.Refusal.{Refusal}
 use Rattle.refusal.specs.Faults.{Fault, fault, refusal, first_fault}
 use Rattle.refusal.proofs.Held.{none_parts}
@@ -51,13 +50,6 @@ module _ (admitted : ℕ → ℕ → Bool) (room : ℕ) (t : List ℕ) (cs : Lis
       none_first le =
           after_none (table_faults admitted t) (list_faults cs ++ room_faults) sound ∙ after_none (list_faults cs) room_faults listed
           ∙ cond-false (ltb room (length cs * timed_rows (rows_in t))) (Some (refusal 13 0)) None (le-ltb room _ le)
-
--- a row past the chain is not timed
-pub timed_past_end : (p : Plan) (k : ℕ) → p.count ≤ k → is_timed (row_at (rows_of p) k) ≡ false
-timed_past_end p k le = ap is_timed (get_or_past (rows_of p) k (Input 0) (omega (arith, used_most p.rows p.count p.few p.each)))
-
-pub timed_used : (p : Plan) (k : ℕ) → k < p.count → row_at (rows_of p) k ≡ row_at p.rows k
-timed_used p k lt = used_row p.rows p.count p.few p.each k lt
 
 -- a sound list has 1 to 32 cars, and a plan at most 64 timed rows
 pub few_cars : (cs : List Car) → first_fault (list_faults cs) ≡ None → (1 ≤ length cs) × (length cs ≤ 32)

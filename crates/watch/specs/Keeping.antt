@@ -5,12 +5,14 @@ use Rattle.mitl.specs.Rows.{timed_rows}
 use Rattle.plan.specs.Rows.{rows_of, numbers_of}
 use Rattle.table.specs.Chain.{rows_in, numbers_in}
 use Rattle.engine.specs.Means.{Means}
-use Rattle.cars.specs.Cars.{no_car, cars_of, state_at}
+use Rattle.cars.specs.Cars.{cars_of, state_at}
 use Rattle.memories.specs.Parts.{part_at}
 use Rattle.book.specs.Book.{Book, empty}
 use Rattle.book.specs.Calls.{Event}
 use Rattle.book.specs.Runs.{Step, Trace}
 use Rattle.watch.specs.declared.inner.Inner.{Inner}
+use Rattle.watch.specs.declared.Watch.{Watch}
+use Rattle.record.specs.Cars.{no_car}
 
 -- what a watch holds: its plan and cars, and its memories
 pub record Held (M : Type 0) : Type 0 where
@@ -19,6 +21,13 @@ pub record Held (M : Type 0) : Type 0 where
 
 abbrev pub held : {M : Type 0} → Inner → List M → Held M
 held i ms = record { inner = i; memories = ms }
+
+abbrev pub held_by : {M : Type 0} → Watch M → Held M
+held_by w = held w.inner w.memories.now
+
+-- the list of memories that was lent to a watch is still the one that it writes
+abbrev pub SameList : {M : Type 0} → Watch M → Watch M → Type 0
+SameList w w' = w'.memories.ghost_name ≡ w.memories.ghost_name
 
 -- The watch w, over so many memories of a kind with this meaning, keeps the book k.
 pub record Keeps {M : Type 0} (meaning : M → Meaning) (room : ℕ) (w : Held M) (k : Book) : Type 0 where

@@ -11,9 +11,9 @@ use Rattle.memories.specs.Parts.{OnlyPart}
 use Rattle.watch.specs.Keeping.{Held}
 
 -- Set leaves the memories past those of its cars and the table's timed rows
-pub record SetStays {M : Type 0} (t : List ℕ) (cs : List Car) (ms ms' : List M) : Type 0 where
-  pub long : length ms' ≡ length ms
-  pub past : (k : ℕ) (m : M) → length cs * timed_rows (rows_in t) ≤ k → slice_index_or ms' k m ≡ slice_index_or ms k m
+pub record SetStays {M : Type 0} (t : List ℕ) (cs : List Car) (w w' : Held M) : Type 0 where
+  pub long : length w'.memories ≡ length w.memories
+  pub past : (k : ℕ) (m : M) → length cs * timed_rows (rows_in t) ≤ k → slice_index_or w'.memories k m ≡ slice_index_or w.memories k m
 
 -- Feed leaves the plan, all cars but the record's, and all memories but that car's part; E leaves all memories
 pub record FeedStays {M : Type 0} (r : Record) (w w' : Held M) : Type 0 where

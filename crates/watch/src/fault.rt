@@ -38,7 +38,7 @@ impl From<SetFault> for Refusal {
 
     fn from(fault: SetFault) -> Refusal {
         match fault {
-            SetFault::Table(fault) => fault.refusal(),
+            SetFault::Table(fault) => fault.into(),
             SetFault::List(fault) => fault.into(),
             SetFault::Memories => Refusal::new(13, 0),
         }

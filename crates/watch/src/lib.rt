@@ -6,8 +6,8 @@ ghost use Rattle.std.specs.Prelude.{◌≡◌, ℕ, ◌*◌, ◌<◌, ◌≤◌,
 ghost use Rattle.plan.specs.Rows.{rows_of};
 ghost use Rattle.mitl.specs.Rows.{timed_rows};
 ghost use Rattle.record.specs.Layout.{fields_at};
-ghost use Rattle.watch.specs.Replies.{ReadForCar, Loaded, PlacedRow, timed_only};
-ghost use Rattle.watch.specs.Keeping.{held, Fresh, Runs, Steps};
+ghost use Rattle.watch.specs.Replies.{ReadForCar, Loaded, PlacedRow};
+ghost use Rattle.watch.specs.Keeping.{held_by, SameList, Fresh, Runs, Steps};
 ghost use Rattle.watch.specs.Promised.{BothEnds, Promise};
 ghost use Rattle.watch.specs.Made.{set_made, feed_made, query_made, notes_told};
 ghost use Rattle.watch.specs.Stays.{SetStays, FeedStays};
@@ -16,7 +16,7 @@ pub mod fault;
 mod inner;
 
 use cars::{CarFault, CarTable, FeedFault};
-use engine::Fed;
+use engine::{Fed, Inputs};
 use fault::SetFault;
 use inner::Inner;
 use memories::{Shown, clear_car, feed_car, index_of, prepare_cars, show};
@@ -31,12 +31,9 @@ fn read_for_car(bytes: &[u8]) -> Result<Record, FeedFault>
     ensures { ReadForCar bytes.now result }
 {
     if bytes.len() == 12 && bytes[0] == b'V' {
-        return Err(FeedFault::Record(RecordFault::UnknownLetter));
+        return Err(RecordFault::UnknownLetter.into());
     }
-    match Record::read(bytes) {
-        Ok(record) => Ok(record),
-        Err(fault) => Err(FeedFault::Record(fault)),
-    }
+    Ok(Record::read(bytes)?)
 }
 
 // The plan of a table and the cars of a list, for so many memories.
@@ -51,39 +48,29 @@ fn load<A: Admission>(table: &[u8], cars: &[Car], room: usize) -> Result<Inner, 
     Ok(Inner { plan, cars: list })
 }
 
-// A place of the chain, if its row is timed.
-fn only_timed(plan: &Plan, place: usize) -> Option<usize>
-    ensures { result ≡ timed_only plan.now (Some place) }
-{
-    if place < plan.count && is_timed(plan.rows[place]) {
-        Some(place)
-    } else {
-        None
-    }
-}
-
 // The chain's place of the row with this number, if it is timed.
 fn timed_row(plan: &Plan, row: u8) -> Option<usize>
     ensures { PlacedRow plan.now row result }
 {
-    match plan.place(row) {
-        Some(place) => only_timed(plan, place),
-        None => None,
-    }
+    let place = plan.place(row)?;
+    is_timed(plan.rows[place]).then_some(place)
 }
 
-// A watch over a lent list of memories.
+// A watch over a lent list of memories. Its fields stand in its contracts, since behind a model a caller would not know
+// what its list holds once the watch is gone.
 #[derive(Drop)]
 pub struct Watch<'a, M: WindowMemory> {
     memories: &'a mut [M],
     inner: Inner,
 }
 
+// The public calls are thin: the private ones under them carry the proofs, so that a wrong public call fails at its own
+// line.
 impl<'a, M: WindowMemory> Watch<'a, M> {
     // A watch over a list of memories, new or used: no table and no cars stand. What is promised after any list of
     // calls on it stands here.
     pub fn new(memories: &'a mut [M]) -> Watch<'a, M>
-        ensures fresh { Fresh M.meaning (held result.inner result.memories.now) }
+        ensures fresh { Fresh M.meaning (held_by result) }
         ensures promise { Promise M.meaning M.admitted }
         ensures same { result.memories.now ≡ memories.old }
         ensures named { result.memories.ghost_name ≡ memories.entry.ghost_name }
@@ -94,10 +81,10 @@ impl<'a, M: WindowMemory> Watch<'a, M> {
     // Set: a table and a car list stand from now on, all cars vacant; the reply is the chain's count of rows, R rows and
     // timed rows.
     pub fn set(&mut self, table: &[u8], cars: &[Car]) -> Result<Counts, SetFault>
-        ensures step { Steps M.meaning M.admitted (held self.old.inner self.old.memories.now) (set_made table.now cars.now result) (held self.new.inner self.new.memories.now) }
-        ensures refused { is_ok result ≡ false → (self.new.inner ≡ self.old.inner) × (self.new.memories.now ≡ self.old.memories.now) }
-        ensures stays { is_ok result ≡ true → SetStays table.now cars.now self.old.memories.now self.new.memories.now }
-        ensures named { self.new.memories.ghost_name ≡ self.old.memories.ghost_name }
+        ensures step { Steps M.meaning M.admitted (held_by self.old) (set_made table.now cars.now result) (held_by self.new) }
+        ensures refused { is_ok result ≡ false → held_by self.new ≡ held_by self.old }
+        ensures stays { is_ok result ≡ true → SetStays table.now cars.now (held_by self.old) (held_by self.new) }
+        ensures named { SameList self.old self.new }
     {
         self.put(table, cars)
     }
@@ -105,26 +92,26 @@ impl<'a, M: WindowMemory> Watch<'a, M> {
     // Feed: one record, and places for the notes of its verdicts; the reply is the notes written and the ticks that they
     // cover.
     pub fn feed(&mut self, bytes: &[u8], notes: &mut [Note]) -> Result<Fed, FeedFault>
-        ensures step { Steps M.meaning M.admitted (held self.old.inner self.old.memories.now) (feed_made bytes.now notes.new result) (held self.new.inner self.new.memories.now) }
+        ensures step { Steps M.meaning M.admitted (held_by self.old) (feed_made bytes.now notes.new result) (held_by self.new) }
         ensures others { (length notes.new ≡ length notes.old) × (drop (notes_told result) notes.new ≡ drop (notes_told result) notes.old) }
-        ensures refused { is_ok result ≡ false → (self.new.inner ≡ self.old.inner) × (self.new.memories.now ≡ self.old.memories.now) }
-        ensures stays { is_ok result ≡ true → FeedStays (fields_at bytes.now) (held self.old.inner self.old.memories.now) (held self.new.inner self.new.memories.now) }
-        ensures named { self.new.memories.ghost_name ≡ self.old.memories.ghost_name }
+        ensures refused { is_ok result ≡ false → held_by self.new ≡ held_by self.old }
+        ensures stays { is_ok result ≡ true → FeedStays (fields_at bytes.now) (held_by self.old) (held_by self.new) }
+        ensures named { SameList self.old self.new }
     {
         self.take(bytes, notes)
     }
 
     // Query: mark d of the memory of a car's timed row, and its count; nothing changes.
     pub fn query(&mut self, car: Car, row: u8, d: u32) -> Result<Shown, CarFault>
-        ensures step { Steps M.meaning M.admitted (held self.old.inner self.old.memories.now) (query_made car row d result) (held self.new.inner self.new.memories.now) }
-        ensures same { (self.new.inner ≡ self.old.inner) × (self.new.memories.now ≡ self.old.memories.now) }
-        ensures named { self.new.memories.ghost_name ≡ self.old.memories.ghost_name }
+        ensures step { Steps M.meaning M.admitted (held_by self.old) (query_made car row d result) (held_by self.new) }
+        ensures same { held_by self.new ≡ held_by self.old }
+        ensures named { SameList self.old self.new }
     {
         self.ask(car, row, d)
     }
 
     fn made(memories: &'a mut [M]) -> Watch<'a, M>
-        ensures fresh { Fresh M.meaning (held result.inner result.memories.now) }
+        ensures fresh { Fresh M.meaning (held_by result) }
         ensures promise { Promise M.meaning M.admitted }
         ensures same { result.memories.now ≡ memories.old }
         ensures named { result.memories.ghost_name ≡ memories.entry.ghost_name }
@@ -140,73 +127,59 @@ impl<'a, M: WindowMemory> Watch<'a, M> {
 
     // A table and a car list are set, or refused and nothing changes.
     fn put(&mut self, table: &[u8], cars: &[Car]) -> Result<Counts, SetFault>
-        ensures step { Steps M.meaning M.admitted (held self.old.inner self.old.memories.now) (set_made table.now cars.now result) (held self.new.inner self.new.memories.now) }
-        ensures refused { is_ok result ≡ false → (self.new.inner ≡ self.old.inner) × (self.new.memories.now ≡ self.old.memories.now) }
-        ensures stays { is_ok result ≡ true → SetStays table.now cars.now self.old.memories.now self.new.memories.now }
-        ensures named { self.new.memories.ghost_name ≡ self.old.memories.ghost_name }
+        ensures step { Steps M.meaning M.admitted (held_by self.old) (set_made table.now cars.now result) (held_by self.new) }
+        ensures refused { is_ok result ≡ false → held_by self.new ≡ held_by self.old }
+        ensures stays { is_ok result ≡ true → SetStays table.now cars.now (held_by self.old) (held_by self.new) }
+        ensures named { SameList self.old self.new }
     {
-        match load::<M>(table, cars, self.memories.len()) {
-            Ok(inner) => {
-                prepare_cars(&inner.plan, cars.len(), self.memories);
-                let counts = inner.plan.counts();
-                self.inner = inner;
-                Ok(counts)
-            }
-            Err(fault) => Err(fault),
-        }
+        self.inner = load::<M>(table, cars, self.memories.len())?;
+        prepare_cars(&self.inner.plan, cars.len(), self.memories);
+        Ok(self.inner.plan.counts())
     }
 
     // What the memory of a car's timed row shows; nothing changes.
     fn ask(&mut self, car: Car, row: u8, d: u32) -> Result<Shown, CarFault>
-        ensures step { Steps M.meaning M.admitted (held self.old.inner self.old.memories.now) (query_made car row d result) (held self.new.inner self.new.memories.now) }
-        ensures same { (self.new.inner ≡ self.old.inner) × (self.new.memories.now ≡ self.old.memories.now) }
-        ensures named { self.new.memories.ghost_name ≡ self.old.memories.ghost_name }
+        ensures step { Steps M.meaning M.admitted (held_by self.old) (query_made car row d result) (held_by self.new) }
+        ensures same { held_by self.new ≡ held_by self.old }
+        ensures named { SameList self.old self.new }
     {
-        let inner = self.inner;
-        let Some(at) = inner.cars.find(car) else {
-            return Err(CarFault::NotListed(car));
-        };
-        let Some(place) = timed_row(&inner.plan, row) else {
-            return Err(CarFault::NoTimedRow(row));
-        };
-        match index_of(&inner.plan, at, place, self.memories.len()) {
-            Some(index) => {
-                let memory = self.memories[index];
-                Ok(show(memory, d))
-            }
-            None => Err(CarFault::NoTimedRow(row)),
-        }
+        let plan = &self.inner.plan;
+        let at = self.inner.cars.find(car).ok_or(CarFault::NotListed(car))?;
+        let untimed = CarFault::NoTimedRow(row);
+        let place = timed_row(plan, row).ok_or(untimed)?;
+        let index = index_of(plan, at, place, self.memories.len()).ok_or(untimed)?;
+        Ok(show(self.memories[index], d))
     }
 
     // One record is taken, or refused and nothing changes.
     fn take(&mut self, bytes: &[u8], notes: &mut [Note]) -> Result<Fed, FeedFault>
-        ensures step { Steps M.meaning M.admitted (held self.old.inner self.old.memories.now) (feed_made bytes.now notes.new result) (held self.new.inner self.new.memories.now) }
+        ensures step { Steps M.meaning M.admitted (held_by self.old) (feed_made bytes.now notes.new result) (held_by self.new) }
         ensures others { (length notes.new ≡ length notes.old) × (drop (notes_told result) notes.new ≡ drop (notes_told result) notes.old) }
-        ensures refused { is_ok result ≡ false → (self.new.inner ≡ self.old.inner) × (self.new.memories.now ≡ self.old.memories.now) }
-        ensures stays { is_ok result ≡ true → FeedStays (fields_at bytes.now) (held self.old.inner self.old.memories.now) (held self.new.inner self.new.memories.now) }
-        ensures named { self.new.memories.ghost_name ≡ self.old.memories.ghost_name }
+        ensures refused { is_ok result ≡ false → held_by self.new ≡ held_by self.old }
+        ensures stays { is_ok result ≡ true → FeedStays (fields_at bytes.now) (held_by self.old) (held_by self.new) }
+        ensures named { SameList self.old self.new }
     {
-        let record = match read_for_car(bytes) {
-            Ok(record) => record,
-            Err(fault) => return Err(fault),
-        };
-        let at = match self.inner.cars.record(record.car, record.letter) {
-            Ok(at) => at,
-            Err(fault) => return Err(fault),
-        };
-        let plan = self.inner.plan;
-        if record.letter == 'R' {
-            clear_car(&plan, at, self.memories);
-            return Ok(Fed { notes: 0, ticks: 0 });
+        let record = read_for_car(bytes)?;
+        let at = self.inner.cars.record(record.car, record.letter)?;
+        let plan = &self.inner.plan;
+        match record.letter {
+            'R' => {
+                clear_car(plan, at, self.memories);
+                Ok(Fed { notes: 0, ticks: 0 })
+            }
+            'E' => Ok(Fed { notes: 0, ticks: 0 }),
+            _ if notes.is_empty() => Err(CarFault::NoPlace.into()),
+            _ => {
+                let Record {
+                    car,
+                    word,
+                    ticks,
+                    ..
+                } = record;
+                let inputs = Inputs { car, word, ticks };
+                Ok(feed_car(plan, at, inputs, self.memories, notes))
+            }
         }
-        if record.letter == 'E' {
-            return Ok(Fed { notes: 0, ticks: 0 });
-        }
-        if notes.len() == 0 {
-            return Err(FeedFault::Car(CarFault::NoPlace));
-        }
-        let (car, word, ticks) = (record.car, record.word, record.ticks);
-        Ok(feed_car(&plan, at, car, word, ticks, self.memories, notes))
     }
 }
 
@@ -217,8 +190,8 @@ fn set_and_feed<M: WindowMemory>(
     bytes: &[u8],
     notes: &mut [Note],
 ) -> (Result<Counts, SetFault>, Result<Fed, FeedFault>)
-    ensures run { Runs M.meaning M.admitted (held watch.old.inner watch.old.memories.now) (set_made table.now cars.now result.0 ∷ (feed_made bytes.now notes.new result.1 ∷ [])) (held watch.new.inner watch.new.memories.now) }
-    ensures named { watch.new.memories.ghost_name ≡ watch.old.memories.ghost_name }
+    ensures run { Runs M.meaning M.admitted (held_by watch.old) (set_made table.now cars.now result.0 ∷ (feed_made bytes.now notes.new result.1 ∷ [])) (held_by watch.new) }
+    ensures named { SameList watch.old watch.new }
 {
     let set = watch.set(table, cars);
     let fed = watch.feed(bytes, notes);
@@ -233,8 +206,8 @@ pub fn begin<M: WindowMemory>(
     bytes: &[u8],
     notes: &mut [Note],
 ) -> (Result<Counts, SetFault>, Result<Fed, FeedFault>)
-    ensures run { Runs M.meaning M.admitted (held watch.old.inner watch.old.memories.now) (set_made table.now cars.now result.0 ∷ (feed_made bytes.now notes.new result.1 ∷ [])) (held watch.new.inner watch.new.memories.now) }
-    ensures named { watch.new.memories.ghost_name ≡ watch.old.memories.ghost_name }
+    ensures run { Runs M.meaning M.admitted (held_by watch.old) (set_made table.now cars.now result.0 ∷ (feed_made bytes.now notes.new result.1 ∷ [])) (held_by watch.new) }
+    ensures named { SameList watch.old watch.new }
 {
     set_and_feed(watch, table, cars, bytes, notes)
 }
@@ -243,7 +216,7 @@ fn agree<M: WindowMemory, N: WindowMemory>(unit: &[u16], desk: &[u16]) -> bool
     ensures value { (result ≡ true → unit.now ≡ desk.now) × (unit.now ≡ desk.now → result ≡ true) }
     ensures promise { BothEnds M.meaning M.admitted N.meaning N.admitted }
 {
-    same_words(unit, desk)
+    unit == desk
 }
 
 // Two watches on any two kinds of memory: where the same table stands in both and two cars' histories are equal, their
@@ -254,10 +227,4 @@ pub fn both_ends<M: WindowMemory, N: WindowMemory>(unit: &[u16], desk: &[u16]) -
     ensures promise { BothEnds M.meaning M.admitted N.meaning N.admitted }
 {
     agree::<M, N>(unit, desk)
-}
-
-fn same_words(unit: &[u16], desk: &[u16]) -> bool
-    ensures { (result ≡ true → unit.now ≡ desk.now) × (unit.now ≡ desk.now → result ≡ true) }
-{
-    unit == desk
 }

@@ -1,20 +1,13 @@
-use Rattle.std.proofs.Common.{length, Some, subst}
 use Rattle.mitl.specs.Rows.{timed_rows}
 use Rattle.plan.specs.Rows.{rows_of}
-use Rattle.memories.specs.Parts.{Spanned}
-use Rattle.memories.proofs.Lent.{lent_back, cleared_back}
-use Rattle.memories.proofs.Exact.{emptied_back}
+use Rattle.memories.proofs.Lent.{lent_back}
+use Rattle.memories.proofs.Exact.{cleared_back, emptied_back}
 use Rattle.memories.proofs.clear_car.Goals as goal
 
 pub returns-in-Some : goal.returns-in-Some
 returns-in-Some g c =
     let rows = rows_of c.args.plan.now in
     let ms = c.args.memories.now in
-    let from = c.in-Some.from in
-    let to = c.in-Some.to in
-    let s = subst (λ n. Spanned c.args.at n (length ms) (Some (from, to))) c.timed.ensures c.in-Some.ensures in
-    let back = lent_back (timed_rows rows) c.args.at from to ms c.clear.new.part s.0 s.1 s.2 c.clear.auto.part in
-    record {
-      cleared = cleared_back g.M.WindowMemory.meaning rows c.args.at from to ms c.clear.new.part back c.clear.ensures.means;
-      exactly = emptied_back g.M.WindowMemory.meaning rows c.args.at from to ms c.clear.new.part back s.1 s.2 c.clear.ensures.memories;
-    }
+    let ys = c.clear.new.part in
+    let back = lent_back (timed_rows rows) c.args.at c.in-Some.from c.in-Some.to ms ys c.in-Some.ensures c.clear.auto.part in
+    record { cleared = cleared_back _ rows c.args.at _ _ ms ys back c.clear.ensures.means; exactly = emptied_back _ rows c.args.at _ _ ms ys back c.clear.ensures.memories }

@@ -1,23 +1,20 @@
-use Rattle.std.proofs.Common.{length, Some, subst}
 use Rattle.mitl.specs.Rows.{timed_rows}
 use Rattle.plan.specs.Rows.{rows_of}
-use Rattle.memories.specs.Parts.{Spanned}
-use Rattle.memories.proofs.Lent.{lent_back, fed_back}
-use Rattle.memories.proofs.Exact.{told_back}
+use Rattle.memories.specs.Exact.{PartFed}
+use Rattle.memories.proofs.Lent.{lent_back}
+use Rattle.memories.proofs.Exact.{fed_back, told_back}
 use Rattle.memories.proofs.feed_car.Goals as goal
 
 pub returns-in-Some : goal.returns-in-Some
 returns-in-Some g c =
     let rows = rows_of c.args.plan.now in
     let ms = c.args.memories.now in
-    let from = c.in-Some.from in
-    let to = c.in-Some.to in
-    let s = subst (λ n. Spanned c.args.at n (length ms) (Some (from, to))) c.timed.ensures c.in-Some.ensures in
-    let back = lent_back (timed_rows rows) c.args.at from to ms c.feed.new.part s.0 s.1 s.2 c.feed.auto.part in
-    let engine = c.feed.ensures in
+    let ys = c.feed.new.part in
+    let back = lent_back (timed_rows rows) c.args.at c.in-Some.from c.in-Some.to ms ys c.in-Some.ensures c.feed.auto.part in
+    let i = c.args.inputs in
+    let told : PartFed g.M.WindowMemory.meaning rows i.car i.word i.ticks _ c.args.notes.now ys c.feed.new.notes c.feed.result =
+    record { unfed = c.feed.ensures.unfed; bounded = c.feed.ensures.bounded; judged = c.feed.ensures.judged } in
     record {
-      fed = fed_back g.M.WindowMemory.meaning rows c.args.at from to ms c.feed.new.part back c.args.car c.args.word c.args.ticks c.args.notes.now c.feed.new.notes c.feed.result
-          engine.bounded.places_length engine.bounded.rest engine.judged;
-      exactly = told_back g.M.WindowMemory.meaning rows c.args.at from to ms c.feed.new.part back s.1 s.2 c.args.car c.args.word c.args.ticks c.args.notes.now c.feed.new.notes c.feed.result
-          (record { unfed = engine.unfed; bounded = engine.bounded; judged = engine.judged });
+      fed = fed_back _ rows c.args.at _ _ ms ys back i.car i.word i.ticks _ _ _ told;
+      exactly = told_back _ rows c.args.at _ _ ms ys back i.car i.word i.ticks _ _ _ told;
     }

@@ -4,5 +4,7 @@ use Rattle.memories.specs.Exact.{AllReadied}
 use Rattle.memories.proofs.prepare_first.Given as goal
 
 abbrev pub invariant-loop-i : goal.invariant-loop-i
-invariant-loop-i g l = Prepared g.M.WindowMemory.meaning g.M.Admission.admitted (rows_of l.plan) l.i l.initial.memories l.memories
-    × AllReadied g.M.WindowMemory.meaning g.M.Admission.admitted (rows_of l.plan) l.i l.initial.memories l.memories
+invariant-loop-i g l = record {
+  prepared : Prepared g.M.WindowMemory.meaning g.M.Admission.admitted (rows_of l.plan) l.i l.initial.memories l.memories;
+  exactly : AllReadied g.M.WindowMemory.meaning g.M.Admission.admitted (rows_of l.plan) l.i l.initial.memories l.memories;
+}

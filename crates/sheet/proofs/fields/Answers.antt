@@ -1,13 +1,8 @@
 use Rattle.std.proofs.Common.{◌≡◌, ℕ, List, ◌∷◌, ◌++◌, Some, None, sym, subst, arith}
 use Rattle.std.proofs.lemmas.Str.Pattern.{split_after, split_parts}
 use Rattle.sheet.specs.Pieces.{Fields, Spaceless}
-use Rattle.sheet.proofs.Spaces.{no_letter, no_second, no_third, all_laid}
+use Rattle.sheet.proofs.Spaces.{no_second, no_third, all_laid}
 use Rattle.sheet.proofs.fields.Goals as goal
-
-pub returns-in_err-rest : goal.returns-in_err-rest
-returns-in_err-rest c =
-    let line = c.args.line.now in
-    subst (Fields line) (sym c.from_residual.ensures) (no_letter line c.in_err-rest.ensures)
 
 pub returns-in_err-car : goal.returns-in_err-car
 returns-in_err-car c =

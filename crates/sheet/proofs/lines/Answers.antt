@@ -1,18 +1,12 @@
-use Rattle.std.proofs.Common.{vec_items}
+use Rattle.std.proofs.Common.{◌∙◌, ap, vec_items, subst, IfOk, rules, of_calls}
+use borrow.Author.Tests.{tests}
+use Rattle.std.specs.Slice.Iter.{split_inclusive_rest}
 use Rattle.sheet.specs.Pieces.{Lines}
-use Rattle.sheet.proofs.Grown.{grown_none, grown_more, grown_all, empty, some, less}
+use Rattle.sheet.proofs.Collected.{lines_collected}
 use Rattle.sheet.proofs.lines.Goals as goal
 
-pub loop-rest-init : goal.loop-rest-init
-loop-rest-init c = grown_none Lines c.args.bytes.now _ c.new-found.ensures.items
-
-pub loop-rest-smaller : goal.loop-rest-smaller
-loop-rest-smaller c = less c.loop-rest.rest.now _ _ c.first_line.ensures (some c.loop-rest.rest.now c.loop-rest-test.ensures)
-
-pub loop-rest-preserved : goal.loop-rest-preserved
-loop-rest-preserved c =
-    let rest = c.loop-rest.rest.now in
-    grown_more Lines c.args.bytes.now (vec_items c.loop-rest.found) (vec_items c.push.new.self) c.line_piece.result rest c.first_line.result.1.now c.loop-rest.invariant c.in_ok-push.ensures.items (λ more h. (some rest c.loop-rest-test.ensures, (c.first_line.result.0.now, c.first_line.result.1.now, c.first_line.ensures, c.line_piece.ensures, h)))
-
 pub returns : goal.returns
-returns c = grown_all Lines c.args.bytes.now _ c.loop-rest.rest.now c.loop-rest.invariant (empty c.loop-rest.rest.now c.loop-rest-test.ensures)
+returns c =
+    let bytes = ap split_inclusive_rest c.map.ensures.source ∙ c.split_inclusive.ensures.rest in
+    let h = lines_collected _ _ (λ f a b f' k. search (rules, tests)) (λ f x p f' k. search (rules, of_calls)) c.map.result c.collect.result c.collect.ensures.ran in
+    subst (λ b. IfOk c.collect.result (λ v. Lines b (vec_items v))) bytes h

@@ -3,8 +3,8 @@ use Rattle.std.proofs.Common.{◌-◌}
 use Rattle.table.proofs.Walking.{Walking}
 use Rattle.table.proofs.walk.Given as goal
 
-abbrev pub invariant-loop-at : goal.invariant-loop-at
-invariant-loop-at g l = Walking g.A.Admission.admitted l.bytes l.rows l.numbers l.count l.at
+abbrev pub invariant-loop-next : goal.invariant-loop-next
+invariant-loop-next g l = Walking g.A.Admission.admitted l.bytes l.draft l.next
 
-abbrev pub decreases-loop-at : goal.decreases-loop-at
-decreases-loop-at g l = 64 - l.count
+abbrev pub decreases-loop-next : goal.decreases-loop-next
+decreases-loop-next g l = 64 - l.draft.count

@@ -1,10 +1,10 @@
-use Rattle.std.proofs.Common.{◌≡◌, ◌*◌, ◌<◌, ◌≤◌, length, ap, ◌∙◌, subst, arith, w64}
+use Rattle.std.proofs.Common.{◌≡◌, ap, arith, w64}
 use mir.Facts.{Fits-of_lt}
+use Rattle.std.proofs.lemmas.Grind.{common_steps}
 use Rattle.std.proofs.lemmas.Result.{err_from_is_err_and}
 use Rattle.mitl.specs.Rows.{timed_rows}
 use Rattle.plan.specs.declared.Counts.{Counts}
 use Rattle.plan.specs.Rows.{rows_of}
-use Rattle.table.specs.Chain.{rows_in}
 use Rattle.table.specs.Refusals.{of_table}
 use Rattle.cars.specs.Refusals.{of_list}
 use Rattle.watch.proofs.Setting.{table_first, list_first, room_first, none_first, few_memories}
@@ -26,16 +26,7 @@ overflow_mul-cars g c =
     Fits-of_lt {w = w64} (rw timed (omega (arith, few_memories c.args.cars.now c.in_ok-plan.plan c.in_ok-list.ensures.0)))
 
 pub returns-then-room-cars : goal.returns-then-room-cars
-returns-then-room-cars g c =
-    let timed : c.counts.result.timed ≡ timed_rows (rows_in c.args.table.now) = ap (λ (n : Counts). n.timed) c.counts.ensures ∙ ap timed_rows c.in_ok-plan.ensures.1.rows in
-    room_first g.A.Admission.admitted c.args.room c.args.table.now c.args.cars.now c.in_ok-plan.ensures.0 c.in_ok-list.ensures.0
-    (subst (λ n. c.args.room < length c.args.cars.now * n) timed c.if-room-cars.true)
+returns-then-room-cars g c = grind (arith, common_steps, room_first)
 
 pub returns : goal.returns
-returns g c =
-    let timed : c.counts.result.timed ≡ timed_rows (rows_in c.args.table.now) = ap (λ (n : Counts). n.timed) c.counts.ensures ∙ ap timed_rows c.in_ok-plan.ensures.1.rows in (
-      none_first g.A.Admission.admitted c.args.room c.args.table.now c.args.cars.now c.in_ok-plan.ensures.0 c.in_ok-list.ensures.0
-          (subst (λ n. length c.args.cars.now * n ≤ c.args.room) timed c.if-room-cars.false),
-      c.in_ok-plan.ensures.1,
-      c.in_ok-list.ensures.1,
-    )
+returns g c = grind (arith, common_steps, none_first)

@@ -3,11 +3,6 @@ use Rattle.cars.specs.Cars.{Filled, wrong_car}
 use Rattle.cars.proofs.Places.{filled_more, refused_is, no_position, first_position}
 use Rattle.cars.proofs.CarTable.filled.Goals as goal
 
-pub loop-i-init : goal.loop-i-init
-loop-i-init c =
-    let f = c.none-table.ensures in
-    (record { count_is = f.count_is; there = λ k lt. absurd (omega arith); past = f.past }, λ j lt. absurd (omega arith))
-
 pub returns-then-refuses : goal.returns-then-refuses
 returns-then-refuses c =
     let cs = c.args.cars.now in

@@ -1,19 +1,12 @@
-use Rattle.std.proofs.Common.{sym, ◌∙◌, arith}
-use Rattle.cars.specs.Cars.{cars_of}
-use Rattle.cars.proofs.Places.{length_cars, found_at, passed_at, place_past}
+use Rattle.std.proofs.Common.{◌∙◌, rules, arith, tests}
+use Rattle.std.proofs.lemmas.Iterator.Search.{position_from_yields_List}
+use Rattle.std.proofs.lemmas.Iterator.{YieldsList-from_slice}
+use Rattle.record.specs.Cars.{same_car}
+use Rattle.cars.specs.declared.Slot.{Slot}
+use Rattle.cars.proofs.Places.{used, place_used}
 use Rattle.cars.proofs.CarTable.find.Goals as goal
-
-pub returns-then-has_at : goal.returns-then-has_at
-returns-then-has_at c =
-    let t = c.args.self.now in
-    sym (c.loop-i.invariant ∙ found_at t c.loop-i.i c.args.car (sym c.if-has_at.ensures))
-
-pub loop-i-preserved : goal.loop-i-preserved
-loop-i-preserved c =
-    let t = c.args.self.now in
-    c.loop-i.invariant ∙ passed_at t c.loop-i.i c.args.car c.loop-i-test.true (sym c.if-has_at.ensures)
 
 pub returns : goal.returns
 returns c =
     let t = c.args.self.now in
-    sym (c.loop-i.invariant ∙ place_past (cars_of t) c.loop-i.i c.args.car (omega (arith, length_cars t)))
+    position_from_yields_List (λ (s : Slot). same_car s.car c.args.car) _ _ _ c.position.ensures.ran (YieldsList-from_slice (used t) (cc)) (λ x b q k. search (rules, tests)) ∙ place_used t (omega arith) c.args.car

@@ -1,64 +1,64 @@
-use Rattle.std.proofs.Common.{[], sym, refl, ◌∙◌}
+use Rattle.std.proofs.Common.{◌≡◌, min, length, [], Some, sym, refl, ◌∙◌, subst}
+use Rattle.std.proofs.lemmas.Result.{err_from_is_err_and}
 use Rattle.refusal.specs.Faults.{refusal}
-use Rattle.cars.specs.Refusals.{car_place}
-use Rattle.book.specs.Calls.{query, shown}
-use Rattle.watch.specs.Keeping.{held, Keeps}
-use Rattle.watch.proofs.Asking.{not_listed, not_timed, timed_is, no_fault, not_missing, shown_right}
+use Rattle.record.specs.Cars.{car_place}
+use Rattle.plan.specs.Rows.{rows_of}
+use Rattle.memories.specs.Parts.{Indexed}
+use Rattle.book.specs.Calls.{query, shown, timed_place}
+use Rattle.watch.specs.Keeping.{held_by, Keeps}
+use Rattle.watch.proofs.Asking.{missing, there, not_listed, not_timed, timed_is, no_fault, not_missing, shown_right}
 use Rattle.watch.proofs.Steps.{refused_step, accepted_step}
 use Rattle.watch.proofs.Watch.ask.Goals as goal
 
-pub returns-in_default : goal.returns-in_default
-returns-in_default g c =
+pub returns-in_err-at-clause-step : goal.returns-in_err-at-clause-step
+returns-in_err-at-clause-step g c =
     let o = g.M.WindowMemory.meaning in
-    let x = query c.args.car c.args.row c.args.d in
-    let w = held c.args.self.now.inner c.args.self.now.memories.now in
-    record {
-      step = λ room k keeps. refused_step g.M.Admission.admitted room (Keeps o room) k x w (refusal 17 (car_place c.args.car)) []
-          (not_listed o room w k keeps c.args.car c.args.row (sym c.in_default.ensures)) refl keeps;
-      same = (refl, refl);
-      named = refl;
-    }
+    let car = c.args.car in
+    let row = c.args.row in
+    let w = held_by c.args.self.now in
+    let p = err_from_is_err_and c.from_residual.result c.from_residual.ensures.1 in
+    let m = missing c.find.result _ _ _ c.find.ensures c.in_err-at.ensures.value in
+    rw (p.1, p.2, m.1) (λ room k keeps. refused_step g.M.Admission.admitted room (Keeps o room) k (query car row c.args.d) w (refusal 17 (car_place car)) []
+    (not_listed o room w k keeps car row m.0) refl keeps)
 
-pub returns-in_default-timed_row : goal.returns-in_default-timed_row
-returns-in_default-timed_row g c =
+pub returns-in_err-place-clause-step : goal.returns-in_err-place-clause-step
+returns-in_err-place-clause-step g c =
     let o = g.M.WindowMemory.meaning in
-    let x = query c.args.car c.args.row c.args.d in
-    let w = held c.args.self.now.inner c.args.self.now.memories.now in
-    let found = sym c.in-Some.ensures in
-    record {
-      step = λ room k keeps. refused_step g.M.Admission.admitted room (Keeps o room) k x w (refusal 20 c.args.row) []
-          (not_timed o room w k keeps c.args.car c.in-Some.at found c.args.row (sym (timed_is o room w k keeps c.args.car c.in-Some.at found c.args.row) ∙ sym c.in_default-timed_row.ensures)) refl keeps;
-      same = (refl, refl);
-      named = refl;
-    }
+    let car = c.args.car in
+    let row = c.args.row in
+    let w = held_by c.args.self.now in
+    let p = err_from_is_err_and c.from_residual-in_err-place.result c.from_residual-in_err-place.ensures.1 in
+    let found = there c.find.result _ _ _ c.find.ensures c.in_ok-at.ensures.value in
+    let m = missing c.timed_row.result _ _ _ c.timed_row.ensures c.in_err-place.ensures.value in
+    rw (p.1, p.2, m.1) (λ room k keeps. refused_step g.M.Admission.admitted room (Keeps o room) k (query car row c.args.d) w (refusal 20 row) []
+    (not_timed o room w k keeps car c.in_ok-at.at found row (sym (timed_is o room w k keeps car c.in_ok-at.at found row) ∙ m.0)) refl keeps)
 
-pub returns-in-Some-index_of : goal.returns-in-Some-index_of
-returns-in-Some-index_of g c =
+pub returns-in_err-index-clause-step : goal.returns-in_err-index-clause-step
+returns-in_err-index-clause-step g c =
     let o = g.M.WindowMemory.meaning in
-    let x = query c.args.car c.args.row c.args.d in
-    let w = held c.args.self.now.inner c.args.self.now.memories.now in
-    let found = sym c.in-Some.ensures in
+    let car = c.args.car in
+    let row = c.args.row in
+    let w = held_by c.args.self.now in
+    let found = there c.find.result _ _ _ c.find.ensures c.in_ok-at.ensures.value in
+    let timed = there c.timed_row.result _ _ _ c.timed_row.ensures c.in_ok-place.ensures.value in
+    let m = missing c.index_of.result _ _ _ refl c.in_err-index.ensures.value in
+    λ room k keeps.
+    let place : timed_place k row ≡ Some c.in_ok-place.place = sym (timed_is o room w k keeps car c.in_ok-at.at found row) ∙ timed in
+    absurd (not_missing o room w k keeps car c.in_ok-at.at found row c.in_ok-place.place place
+    (subst (Indexed (rows_of w.inner.plan) c.in_ok-at.at (min c.in_ok-place.place w.inner.plan.count) (length w.memories)) m.0 c.index_of.ensures))
+
+pub returns-clause-step : goal.returns-clause-step
+returns-clause-step g c =
+    let o = g.M.WindowMemory.meaning in
+    let car = c.args.car in
+    let row = c.args.row in
+    let w = held_by c.args.self.now in
     let s = c.show.result in
-    record {
-      step = λ room k keeps.
-          let place = sym (timed_is o room w k keeps c.args.car c.in-Some.at found c.args.row) ∙ sym c.in-Some-timed_row.ensures in
-          accepted_step g.M.Admission.admitted room (Keeps o room) k x w [] (shown s.mark s.count)
-          (no_fault o room w k keeps c.args.car c.in-Some.at found c.args.row c.in-Some-timed_row.place place) refl
-          (shown_right o room w k keeps c.args.car c.in-Some.at found c.args.row c.in-Some-timed_row.place place c.args.d c.in-Some-index_of.index s
-          c.index-self-index.result c.in-Some-index_of.ensures c.show.ensures.0 c.show.ensures.1) keeps;
-      same = (refl, refl);
-      named = refl;
-    }
-
-pub returns-in-None : goal.returns-in-None
-returns-in-None g c =
-    let o = g.M.WindowMemory.meaning in
-    let w = held c.args.self.now.inner c.args.self.now.memories.now in
-    let found = sym c.in-Some.ensures in
-    record {
-      step = λ room k keeps.
-          let place = sym (timed_is o room w k keeps c.args.car c.in-Some.at found c.args.row) ∙ sym c.in-Some-timed_row.ensures in
-          absurd (not_missing o room w k keeps c.args.car c.in-Some.at found c.args.row c.in-Some-timed_row.place place c.in-None.ensures);
-      same = (refl, refl);
-      named = refl;
-    }
+    let found = there c.find.result _ _ _ c.find.ensures c.in_ok-at.ensures.value in
+    let timed = there c.timed_row.result _ _ _ c.timed_row.ensures c.in_ok-place.ensures.value in
+    let indexed = subst (Indexed (rows_of w.inner.plan) c.in_ok-at.at (min c.in_ok-place.place w.inner.plan.count) (length w.memories)) (there c.index_of.result _ _ _ refl c.in_ok-index.ensures.value) c.index_of.ensures in
+    λ room k keeps.
+    let place : timed_place k row ≡ Some c.in_ok-place.place = sym (timed_is o room w k keeps car c.in_ok-at.at found row) ∙ timed in
+    accepted_step g.M.Admission.admitted room (Keeps o room) k (query car row c.args.d) w [] (shown s.mark s.count)
+    (no_fault o room w k keeps car c.in_ok-at.at found row c.in_ok-place.place place) refl
+    (shown_right o room w k keeps car c.in_ok-at.at found row c.in_ok-place.place place c.args.d c.in_ok-index.index s c.index-self-index.result indexed c.show.ensures.0 c.show.ensures.1) keeps

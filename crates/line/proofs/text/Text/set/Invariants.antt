@@ -1,7 +1,11 @@
--- The numbers from place i on stand in the line, and there is room for the others. Assumes nothing.
-use Rattle.std.proofs.Common.{◌≡◌, ◌*◌, ◌<◌, drop}
+-- The last numbers stand in the line, as many as were put, and there is room for the others. Assumes nothing.
+use Rattle.std.proofs.Common.{◌≡◌, ◌+◌, ◌-◌, ◌*◌, ◌≤◌, length, drop}
 use Rattle.line.specs.Lines.{numbers_line}
 use Rattle.line.proofs.text.Text.set.Given as goal
 
-abbrev pub invariant-loop-i : goal.invariant-loop-i
-invariant-loop-i l = (21 * l.i < l.self.start) × (drop l.self.start l.self.bytes ≡ numbers_line (drop l.i l.numbers))
+abbrev pub invariant-loop-number : goal.invariant-loop-number
+invariant-loop-number l =
+    (goal.iterator-loop-number).can_next l.number-iterator
+    × (goal.iterator-loop-number).is_finite l.number-iterator
+    × (64 ≤ l.self.start + 21 * length l.yielded)
+    × (drop l.self.start l.self.bytes ≡ numbers_line (drop (length l.numbers - length l.yielded) l.numbers))
