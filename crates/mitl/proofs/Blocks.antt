@@ -1,7 +1,7 @@
 -- The readings and the outlooks over a block of ticks with one word. Assumes nothing.
 use Rattle.std.proofs.Common.{◌≡◌, ℕ, zero, suc, ◌+◌, ◌-◌, ◌<◌, ◌≤◌, Bool, true, false, cond, not, ◌&&◌, ◌||◌, List, ◌++◌, length, replicate, sym, refl, ap, ◌∙◌, subst, ap₂, inl, inr, not-suc-le-zero, arith, length-append}
 use mathlib.Core.Path.{fun_ext}
-use mathlib.Core.Bool.{false≢true}
+use mathlib.Core.Bool.{false≢true, not-not}
 use Rattle.std.proofs.lemmas.Bool.{cases_lt}
 use lib.ListN.{length-replicate}
 use Rattle.std.proofs.lemmas.List.{get_or-append-add, get_or-replicate}
@@ -14,10 +14,6 @@ use Rattle.mitl.specs.Memory.{Meaning, took, cleared, taken, ahead}
 use Rattle.mitl.specs.Blocks.{row_ahead, row_after, advanced, Proper, row_outlook, row_looked, Foreseen, Steady}
 use Rattle.mitl.proofs.Outlook.{once_ahead, always_ahead, since_ahead, since_off, once_takes, always_takes, since_takes, since_clears}
 use Rattle.mitl.proofs.Rows.{formulas_at}
-
-not_not : (v : Bool) → v ≡ not (not v)
-not_not true = refl
-not_not false = refl
 
 module _ (fs : List Formula) (h : List ℕ) (n w : ℕ) (v : ℕ → Bool) (k : ℕ) where
   abbrev block : List ℕ
@@ -34,7 +30,7 @@ module _ (fs : List Formula) (h : List ℕ) (n w : ℕ) (v : ℕ → Bool) (k : 
   row_ahead_is (Or l r) e p d lt steady = ap₂ ◌||◌ (steady l e.0 (length h + d) (omega arith) (omega arith)) (steady r e.1 (length h + d) (omega arith) (omega arith))
   row_ahead_is (Once l a b) e p d lt steady = once_ahead h block (formula_at fs l) a b (v l) (omega arith) d (steady l e)
   row_ahead_is (Always l a b) e p d lt steady =
-      always_ahead h block (formula_at fs l) a b (not (v l)) (omega arith) d (λ u low high. steady l e u low high ∙ not_not (v l))
+      always_ahead h block (formula_at fs l) a b (not (v l)) (omega arith) d (λ u low high. steady l e u low high ∙ sym (not-not (v l)))
   row_ahead_is (Since l r a b) e p d lt steady = held (v l) (steady l e.0)
     where
       held : (x : Bool) → ((u : ℕ) → length h ≤ u → u ≤ length h + d → sat (formula_at fs l) (h ++ block) u ≡ x)
@@ -48,17 +44,13 @@ module _ (fs : List Formula) (h : List ℕ) (n w : ℕ) (v : ℕ → Bool) (k : 
   Held = (l : ℕ) → l < k → (u : ℕ) → length h ≤ u → u < length h + n → sat (formula_at fs l) (h ++ block) u ≡ v l
 
   row_after_is : (r : Row) → is_timed r ≡ true → Earlier k r → 0 < n → Held → (d : ℕ) → outlook (formula_of fs r) (h ++ block) d ≡ row_after r (outlook (formula_of fs r) h) v n d
-  row_after_is (Input i) t e pos steady d = absurd (false≢true t)
-  row_after_is (Not l) t e pos steady d = absurd (false≢true t)
-  row_after_is (And l r) t e pos steady d = absurd (false≢true t)
-  row_after_is (Or l r) t e pos steady d = absurd (false≢true t)
   row_after_is (Once l a b) t e pos steady d =
       let size = length-replicate n w in
       let took = once_takes h block (formula_at fs l) a b (v l) (λ u new. steady l e u new.0 (omega arith)) d in
       rw length-replicate at took
   row_after_is (Always l a b) t e pos steady d =
       let size = length-replicate n w in
-      let took = always_takes h block (formula_at fs l) a b (not (v l)) (λ u new. steady l e u new.0 (omega arith) ∙ not_not (v l)) d in
+      let took = always_takes h block (formula_at fs l) a b (not (v l)) (λ u new. steady l e u new.0 (omega arith) ∙ sym (not-not (v l))) d in
       rw length-replicate at took
   row_after_is (Since l r a b) t e pos steady d = held (v l) (steady l e.0)
     where
@@ -72,7 +64,7 @@ module _ (fs : List Formula) (h : List ℕ) (n w : ℕ) (v : ℕ → Bool) (k : 
           at (since_takes h block (formula_at fs l) (formula_at fs r) a b (v r) (λ u new. on u new.0 (omega (arith, size))) (λ u new. steady r e.1 u new.0 (omega (arith, size))) d)
       held false off =
           since_clears (formula_at fs l) (formula_at fs r) a b (h ++ block) (length h + n - 1) (omega (arith, length-append h block, size)) (off (length h + n - 1) (omega arith) (omega arith)) d
-  row_after_is (Rule i l) t e pos steady d = absurd (false≢true t)
+  row_after_is r t e pos steady d = absurd (false≢true t)
 
 module _ (rows : List Row) (chained : Chained rows) (h : List ℕ) (n w : ℕ) (v : ℕ → Bool) (k : ℕ) (within : k < length rows) where
   pub read_ahead : Proper (row_at rows k) → (d : ℕ) → d < n
@@ -125,10 +117,6 @@ module _ (rows : List Row) (chained : Chained rows) (h : List ℕ) (n w : ℕ) (
     where
       go : (r : Row) → is_timed r ≡ true → ((d : ℕ) → outlook (formula_of (formulas rows) r) (h ++ replicate n w) d ≡ row_after r (outlook (formula_of (formulas rows) r) h) v n d)
           → looked (formula_of (formulas rows) r) (h ++ replicate n w) ≡ advanced r v n (looked (formula_of (formulas rows) r) h)
-      go (Input i) t e = absurd (false≢true t)
-      go (Not l) t e = absurd (false≢true t)
-      go (And l r) t e = absurd (false≢true t)
-      go (Or l r) t e = absurd (false≢true t)
       go (Once l a b) t e = meaning_path a b a b _ _ refl refl e
       go (Always l a b) t e = meaning_path a b a b _ _ refl refl e
       go (Since l r a b) t e = held (v l) e
@@ -139,4 +127,4 @@ module _ (rows : List Row) (chained : Chained rows) (h : List ℕ) (n w : ℕ) (
               ≡ cond x (took (v r) n (looked (since (formula_at (formulas rows) l) (formula_at (formulas rows) r) a b) h)) (cleared (looked (since (formula_at (formulas rows) l) (formula_at (formulas rows) r) a b) h))
           held true e' = meaning_path a b a b _ _ refl refl e'
           held false e' = meaning_path a b a b _ _ refl refl e'
-      go (Rule i l) t e = absurd (false≢true t)
+      go r t e = absurd (false≢true t)

@@ -1,7 +1,7 @@
 -- The readings along a chain: they are what the rows say, the only ones, and a split of the ticks keeps them. Assumes nothing.
-use Rattle.std.proofs.Common.{◌≡◌, ℕ, zero, suc, ◌+◌, ◌*◌, ◌/◌, ◌<◌, ◌≤◌, Bool, ◌&&◌, List, [], ◌∷◌, ◌++◌, map, length, get_or, Decides, sym, refl, ap, ◌∙◌, subst, ap₂, inl, inr, not-suc-le-zero, zero-add, arith, length-append}
+use Rattle.std.proofs.Common.{◌≡◌, ℕ, zero, suc, ◌+◌, ◌*◌, ◌/◌, ◌<◌, ◌≤◌, Bool, ◌&&◌, List, [], ◌∷◌, ◌++◌, map, length, Decides, sym, refl, ap, ◌∙◌, subst, ap₂, inl, inr, not-suc-le-zero, zero-add, arith, length-append}
 use mathlib.Core.Path.{fun_ext}
-use lib.ListN.{length-map}
+use lib.ListN.{length-map, get_or-map}
 use Rattle.std.proofs.lemmas.List.{get_or_append_left, get_or_at, map_push}
 use Rattle.std.proofs.lemmas.Bool.{cases_lt, not-true, not_from_false, and_parts, and_from, or_cases, or_left, or_right}
 use Rattle.std.proofs.lemmas.Bool.Decides.{same_from_decides, Decides-like, Decides-at}
@@ -9,7 +9,7 @@ use Rattle.mitl.specs.declared.Row.{Row}
 use Rattle.mitl.specs.declared.Row.TheVariants.{Input, Not, And, Or, Once, Always, Since, Rule}
 use Rattle.mitl.specs.Formulas.{Formula, input, neg, both, either, once, always, since, sat, scaled, parts}
 use Rattle.mitl.specs.Rows.{Earlier, row_at, Chained, Says, Reads, formula_at, formula_of, along, formulas, read, word, is_rule, rule, verdict, scaled_row, scaled_rows}
-use Rattle.mitl.proofs.Tests.{decides_sat}
+use Rattle.mitl.proofs.Tests.{itself, decides_sat}
 use Rattle.mitl.proofs.Parts.{sat_parts}
 use Rattle.mitl.specs.Windows.{some_below}
 
@@ -50,7 +50,7 @@ formulas_at rows chained k lt =
     ap (formula_at (formulas rows)) (sym (zero-add k)) ∙ along_at rows [] (λ j less. subst (λ n. Earlier n (row_at rows j)) (sym (zero-add j)) (chained j less)) k lt
 
 says : (fs : List Formula) (h : List ℕ) (t : ℕ) (r : Row) → Decides (sat (formula_of fs r) h t) (Says r h (λ k u. sat (formula_at fs k) h u) t)
-says fs h t (Input i) = (λ e. e, λ e. e)
+says fs h t (Input i) = itself _
 says fs h t (Not l) = (not-true _, not_from_false _)
 says fs h t (And l r) = (and_parts _ _, λ e. and_from _ _ e.0 e.1)
 says fs h t (Or l r) = (or_cases _ _, elim [ inl e ↦ or_left _ _ e | inr e ↦ or_right _ _ e ])
@@ -67,7 +67,7 @@ says fs h t (Since l r a b) =
     (λ r. (r.0, r.1, (at' r.0).1 r.2, λ s low high. (at s).1 (r.3 s low high)))
     (λ r. (r.0, r.1, (at' r.0).0 r.2, λ s low high. (at s).0 (r.3 s low high)))
     (decides_sat (since (formula_at fs l) (formula_at fs r) a b) h t)
-says fs h t (Rule i l) = (λ e. e, λ e. e)
+says fs h t (Rule i l) = itself _
 
 pub read_reads : (rows : List Row) (h : List ℕ) → Chained rows → Reads rows h (read rows h)
 read_reads rows h chained k lt t = Decides-at _ _ (ap (λ f. sat f h t) (formulas_at rows chained k lt)) (says (formulas rows) h t (row_at rows k))
@@ -106,21 +106,18 @@ module _ (rows : List Row) (h : List ℕ) (chained : Chained rows) (x y : ℕ �
   one_reading = same_below (length rows) (omega arith)
 
 -- bounds multiplied along the chain are bounds multiplied in the formulas
-get_or-mapped : {X Y : Type 0} (f : X → Y) (d : X) (xs : List X) (k : ℕ) → get_or (map f xs) k (f d) ≡ f (get_or xs k d)
-get_or-mapped f d [] k = refl
-get_or-mapped f d (x ∷ xs) zero = refl
-get_or-mapped f d (x ∷ xs) (suc k) = get_or-mapped f d xs k
+scaled_at : (q : ℕ) (fs : List Formula) (k : ℕ) → formula_at (map (scaled q) fs) k ≡ scaled q (formula_at fs k)
+scaled_at q fs k = get_or-map (scaled q) fs k (input 0)
 
 formula_of_scaled : (q : ℕ) (fs : List Formula) (r : Row) → formula_of (map (scaled q) fs) (scaled_row q r) ≡ scaled q (formula_of fs r)
 formula_of_scaled q fs (Input i) = refl
-formula_of_scaled q fs (Not l) = ap neg (get_or-mapped (scaled q) (input 0) fs l)
-formula_of_scaled q fs (And l r) = ap₂ both (get_or-mapped (scaled q) (input 0) fs l) (get_or-mapped (scaled q) (input 0) fs r)
-formula_of_scaled q fs (Or l r) = ap₂ either (get_or-mapped (scaled q) (input 0) fs l) (get_or-mapped (scaled q) (input 0) fs r)
-formula_of_scaled q fs (Once l a b) = ap (λ f. once f (q * a) (q * b)) (get_or-mapped (scaled q) (input 0) fs l)
-formula_of_scaled q fs (Always l a b) = ap (λ f. always f (q * a) (q * b)) (get_or-mapped (scaled q) (input 0) fs l)
-formula_of_scaled q fs (Since l r a b) =
-    ap₂ (λ f g. since f g (q * a) (q * b)) (get_or-mapped (scaled q) (input 0) fs l) (get_or-mapped (scaled q) (input 0) fs r)
-formula_of_scaled q fs (Rule i l) = get_or-mapped (scaled q) (input 0) fs l
+formula_of_scaled q fs (Not l) = ap neg (scaled_at q fs l)
+formula_of_scaled q fs (And l r) = ap₂ both (scaled_at q fs l) (scaled_at q fs r)
+formula_of_scaled q fs (Or l r) = ap₂ either (scaled_at q fs l) (scaled_at q fs r)
+formula_of_scaled q fs (Once l a b) = ap (λ f. once f (q * a) (q * b)) (scaled_at q fs l)
+formula_of_scaled q fs (Always l a b) = ap (λ f. always f (q * a) (q * b)) (scaled_at q fs l)
+formula_of_scaled q fs (Since l r a b) = ap₂ (λ f g. since f g (q * a) (q * b)) (scaled_at q fs l) (scaled_at q fs r)
+formula_of_scaled q fs (Rule i l) = scaled_at q fs l
 
 along_scaled : (q : ℕ) (rows : List Row) (fs : List Formula) → along (map (scaled q) fs) (scaled_rows q rows) ≡ map (scaled q) (along fs rows)
 along_scaled q [] fs = refl
@@ -131,25 +128,22 @@ along_scaled q (r ∷ rows) fs =
 
 is_rule_scaled : (q i : ℕ) (r : Row) → is_rule i (scaled_row q r) ≡ is_rule i r
 is_rule_scaled q i (Input j) = refl
-is_rule_scaled q i (Not l) = refl
-is_rule_scaled q i (And l r) = refl
-is_rule_scaled q i (Or l r) = refl
-is_rule_scaled q i (Once l a b) = refl
-is_rule_scaled q i (Always l a b) = refl
-is_rule_scaled q i (Since l r a b) = refl
-is_rule_scaled q i (Rule j l) = refl
+is_rule_scaled q i r = refl
+
+scaled_row_at : (q : ℕ) (rows : List Row) (k : ℕ) → row_at (scaled_rows q rows) k ≡ scaled_row q (row_at rows k)
+scaled_row_at q rows k = get_or-map (scaled_row q) rows k (Input 0)
 
 module _ (q : ℕ) (pos : 0 < q) (rows : List Row) (h : List ℕ) (p : ℕ) where
   pub read_parts : (k : ℕ) → read (scaled_rows q rows) (parts q h) k p ≡ read rows h k (p / q)
   read_parts k =
       ap (λ f. sat f (parts q h) p)
-      (ap (λ fs. formula_at fs k) (along_scaled q rows []) ∙ get_or-mapped (scaled q) (input 0) (formulas rows) k)
+      (ap (λ fs. formula_at fs k) (along_scaled q rows []) ∙ scaled_at q (formulas rows) k)
       ∙ sat_parts q pos (formula_at (formulas rows) k) h p
 
   rule_parts : (i : ℕ) → rule (scaled_rows q rows) (parts q h) p i ≡ rule rows h (p / q) i
   rule_parts i =
       ap₂ some_below
-      (fun_ext (λ k. ap₂ ◌&&◌ (ap (is_rule i) (get_or-mapped (scaled_row q) (Input 0) rows k) ∙ is_rule_scaled q i (row_at rows k)) (read_parts k)))
+      (fun_ext (λ k. ap₂ ◌&&◌ (ap (is_rule i) (scaled_row_at q rows k) ∙ is_rule_scaled q i (row_at rows k)) (read_parts k)))
       (length-map rows (scaled_row q))
 
   pub verdict_parts : verdict (scaled_rows q rows) (parts q h) p ≡ verdict rows h (p / q)
@@ -158,15 +152,9 @@ module _ (q : ℕ) (pos : 0 < q) (rows : List Row) (h : List ℕ) (p : ℕ) wher
 
 earlier_scaled : (q k : ℕ) (r : Row) → Earlier k r → Earlier k (scaled_row q r)
 earlier_scaled q k (Input j) e = e
-earlier_scaled q k (Not l) e = e
-earlier_scaled q k (And l r) e = e
-earlier_scaled q k (Or l r) e = e
-earlier_scaled q k (Once l a b) e = e
-earlier_scaled q k (Always l a b) e = e
-earlier_scaled q k (Since l r a b) e = e
-earlier_scaled q k (Rule j l) e = e
+earlier_scaled q k r e = e
 
 pub chained_scaled : (q : ℕ) (rows : List Row) → Chained rows → Chained (scaled_rows q rows)
 chained_scaled q rows chained k lt =
-    subst (Earlier k) (sym (get_or-mapped (scaled_row q) (Input 0) rows k))
+    subst (Earlier k) (sym (scaled_row_at q rows k))
     (earlier_scaled q k (row_at rows k) (chained k (omega (arith, length-map rows (scaled_row q)))))

@@ -1,27 +1,21 @@
 -- The rules of a chain in the verdict word. Assumes nothing.
 use Rattle.std.proofs.Common.{◌≡◌, ℕ, zero, suc, ◌+◌, ◌<◌, ◌≤◌, Bool, true, false, ◌&&◌, ◌||◌, List, ◌++◌, length, replicate, Decides, sym, refl, ap, ◌∙◌, subst, ap₂, inl, inr, arith}
 use mathlib.Core.Bool.{false≢true}
-use Rattle.std.proofs.lemmas.Bool.{cases_lt, cases_Bool, eqb-true, eq-eqb}
+use Rattle.std.proofs.lemmas.Bool.{cases_lt, eqb-true, eq-eqb}
 use Rattle.std.proofs.lemmas.Bool.Decides.{same_from_decides, Decides-like, Decides-and}
 use Rattle.mitl.specs.declared.Row.{Row}
-use Rattle.mitl.specs.declared.Row.TheVariants.{Input, Not, And, Or, Once, Always, Since, Rule}
+use Rattle.mitl.specs.declared.Row.TheVariants.{Rule}
 use Rattle.mitl.specs.Formulas.{bit, sat}
 use Rattle.mitl.specs.Rows.{row_at, Chained, formula_of, formulas, read, is_rule, rule_by, rule, verdict, RulesApart}
 use Rattle.mitl.specs.Windows.{some_below}
 use Rattle.mitl.specs.Blocks.{Steady}
-use Rattle.mitl.proofs.Tests.{decides_some}
+use Rattle.mitl.proofs.Tests.{itself, no_from_none, decides_some}
 use Rattle.mitl.proofs.Rows.{formulas_at}
-use Rattle.mitl.proofs.Words.{bit_word, bit_high, word_lt, word_only}
+use Rattle.mitl.proofs.Words.{bit_word, bit_high, word_lt, word_known, word_only}
 
 rule_row : (i : ℕ) (r : Row) → is_rule i r ≡ true → (l : ℕ) × (r ≡ Rule i l)
-rule_row i (Input j) e = absurd (false≢true e)
-rule_row i (Not l) e = absurd (false≢true e)
-rule_row i (And l r) e = absurd (false≢true e)
-rule_row i (Or l r) e = absurd (false≢true e)
-rule_row i (Once l a b) e = absurd (false≢true e)
-rule_row i (Always l a b) e = absurd (false≢true e)
-rule_row i (Since l r a b) e = absurd (false≢true e)
 rule_row i (Rule j l) e = (l, ap (λ n. Rule n l) (sym (eqb-true i j e)))
+rule_row i r e = absurd (false≢true e)
 
 row_rule : (i l : ℕ) (r : Row) → r ≡ Rule i l → is_rule i r ≡ true
 row_rule i l r e = ap (is_rule i) e ∙ eq-eqb i i refl
@@ -31,21 +25,15 @@ module _ (rows : List Row) (h : List ℕ) (t : ℕ) where
   Ruled i = (k : ℕ) × (k < length rows) × ((is_rule i (row_at rows k) ≡ true) × (read rows h k t ≡ true))
 
   decides_rule : (i : ℕ) → Decides (rule rows h t i) (Ruled i)
-  decides_rule i = decides_some _ _ (λ k. Decides-and _ _ (λ e. e, λ e. e) (λ e. e, λ e. e)) (length rows)
+  decides_rule i = decides_some _ _ (λ k. Decides-and _ _ (itself _) (itself _)) (length rows)
 
   rule_bare : (i : ℕ) → ((k l : ℕ) → k < length rows → row_at rows k ≡ Rule i l → ⊥) → rule rows h t i ≡ false
   rule_bare i none =
-      elim (cases_Bool (rule rows h t i)) [
-        | inl on ↦
-            (let r = (decides_rule i).0 on in
-            let row = rule_row i (row_at rows r.0) r.2.0 in
-            absurd (none r.0 row.0 r.1 row.1))
-        | inr off ↦ off
-      ]
+      no_from_none _ (decides_rule i) (λ r. let row = rule_row i (row_at rows r.0) r.2.0 in none r.0 row.0 r.1 row.1)
 
   rule_ruled : Chained rows → RulesApart rows → (k i l : ℕ) → k < length rows → row_at rows k ≡ Rule i l → rule rows h t i ≡ read rows h l t
   rule_ruled chained apart k i l lt at =
-      same_from_decides _ _ (Decides-like _ back forth (decides_rule i)) (λ e. e, λ e. e)
+      same_from_decides _ _ (Decides-like _ back forth (decides_rule i)) (itself _)
       ∙ ap (λ f. sat f h t) (formulas_at rows chained k lt ∙ ap (formula_of (formulas rows)) at)
     where
       back : Ruled i → read rows h k t ≡ true
@@ -69,7 +57,7 @@ unfolding verdict
 verdict_only rows h t = word_only (rule rows h t) 16
 
 pub known_by_bits : (w x : ℕ) → w < 65536 → x < 65536 → ((i : ℕ) → i < 16 → bit i w ≡ bit i x) → w ≡ x
-known_by_bits w x first second same = word_only (λ i. bit i x) 16 w first same ∙ sym (word_only (λ i. bit i x) 16 x second (λ _ _. refl))
+known_by_bits = word_known 16
 
 pub verdict_ruled : (rows : List Row) → Chained rows → RulesApart rows → (k i l : ℕ) → k < length rows → row_at rows k ≡ Rule i l
     → i < 16 → (h : List ℕ) (t : ℕ) → bit i (verdict rows h t) ≡ read rows h l t

@@ -33,68 +33,40 @@ pub enum Row {
 }
 
 // Bit i of an input word; no from bit 32 on.
+#[tactic(auto, using(crate::proofs::Words::bit_past_word))]
 pub fn input_bit(inputs: u32, i: u8) -> bool
     ensures { result ≡ bit i inputs }
 {
-    if i < 32 {
-        (inputs >> i) % 2 == 1
-    } else {
-        beyond(inputs, i)
-    }
-}
-
-// A bit past the word.
-fn beyond(inputs: u32, i: u8) -> bool
-    requires { 32 ≤ i }
-    ensures { result ≡ bit i inputs }
-{
-    false
+    i < 32 && (inputs >> i) % 2 == 1
 }
 
 // The verdict word with the bit of one more rule, which is set where the rule is on; a number from 16 on has no bit.
+#[tactic(auto, using(crate::proofs::Words::bit_set))]
 pub fn with_rule(verdicts: u16, number: u8, on: bool) -> u16
     ensures bits { (k : ℕ) → k < 16 → bit k result ≡ ((k == number && on) || bit k verdicts) }
     ensures set { number < 16 → (k : ℕ) → bit k result ≡ ((k == number && on) || bit k verdicts) }
     ensures none { 16 ≤ number → result ≡ verdicts }
 {
     if on && number < 16 {
-        with_bit(verdicts, number)
+        verdicts | (1 << number)
     } else {
         verdicts
     }
 }
 
-fn with_bit(verdicts: u16, number: u8) -> u16
-    requires { number < 16 }
-    ensures bits { (k : ℕ) → k < 16 → bit k result ≡ (k == number || bit k verdicts) }
-    ensures set { (k : ℕ) → bit k result ≡ (k == number || bit k verdicts) }
-{
-    verdicts | (1 << number)
-}
-
 // The most stretches of yes that an outlook of the window from a to b has.
+#[tactic(auto, using(crate::proofs::Stretches::bounds))]
 pub fn most_stretches(a: u32, b: u32) -> u32
     ensures value { result ≡ most_stretches_lem a b }
     ensures enough { BoundsStretches a b result }
 {
-    one_and_quotient(b, apart(a, b))
-}
-
-// Two stretches of one outlook end at least so many ticks apart: a yes reaches b - a + 1 ticks, and a no follows.
-fn apart(a: u32, b: u32) -> u64
-    ensures { result ≡ b - a + 2 }
-{
-    b.saturating_sub(a) as u64 + 2
-}
-
-fn one_and_quotient(b: u32, gap: u64) -> u32
-    requires { 2 ≤ gap }
-    ensures { result ≡ 1 + (b - 1) / gap }
-{
-    1 + (b.saturating_sub(1) as u64 / gap) as u32
+    // two stretches of one outlook end at least so many ticks apart: a yes reaches b - a + 1 ticks, and a no follows
+    let gap = u64::from(b.saturating_sub(a)) + 2;
+    1 + (u64::from(b.saturating_sub(1)) / gap) as u32
 }
 
 // A formula's test says yes exactly where the formula holds.
+#[tactic(auto, using(crate::proofs::Tests::decides_sat))]
 pub fn satisfaction_is_decided() -> u8
     ensures { (result ≡ 0) × (Decided) }
 {

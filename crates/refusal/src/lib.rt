@@ -36,6 +36,7 @@ impl Refusal {
 }
 
 // Whatever faults are looked for, and in whatever order: there is a refusal exactly when one of them holds.
+#[tactic(auto, using(crate::proofs::Held::one_held))]
 pub fn refused_exactly_when() -> u8
     ensures { (result ≡ 0) × (OneHeld) }
 {

@@ -18,7 +18,7 @@ use Rattle.table.proofs.Chains.{Headed, headed, low_at, apart_at, room_at, longe
 use Rattle.table.proofs.Finish.{head_refused, row_refused, rule_refused, not_refused}
 use Rattle.table.proofs.Fitting.{rows_fit}
 use Rattle.table.proofs.Said.{said}
-use Rattle.refusal.proofs.Firsts.{along_none, along_some, none_parts, none_along}
+use Rattle.refusal.proofs.Firsts.{along_none, along_some, none_joined, none_along}
 use Rattle.table.proofs.Numbers.{first_before, first_at}
 
 module _ (admits : ℕ → ℕ → Bool) (t : List ℕ) where
@@ -66,8 +66,8 @@ module _ (admits : ℕ → ℕ → Bool) (t : List ℕ) where
   unfolding table_refusal
   parts e =
       let last : List Fault = fault (not (ruled t)) 11 0 ∷ [] in
-      let p = none_parts (head_faults t) (chain_faults admits t ++ last) e in
-      (p.0, (none_parts (chain_faults admits t) last p.1).0)
+      let p = none_joined (head_faults t) (chain_faults admits t ++ last) e in
+      (p.0, (none_joined (chain_faults admits t) last p.1).0)
 
   module _ (h : Headed t) (clear : Clear admits t (chain_length t)) where
     past : (k : ℕ) → suc k < chain_length t → on_chain t (suc k) ≡ 0 → ⊥

@@ -6,8 +6,8 @@ use Rattle.mitl.specs.Memory.{Meaning}
 use Rattle.mitl.specs.Rows.{timed_rows}
 use Rattle.plan.specs.Rows.{rows_of}
 use Rattle.refusal.specs.Faults.{fault, first_fault}
-use Rattle.refusal.proofs.Firsts.{none_parts}
-use Rattle.refusal.proofs.Held.{none_parts as none_both, off_counted}
+use Rattle.refusal.proofs.Firsts.{none_joined}
+use Rattle.refusal.proofs.Held.{none_parts, off_counted}
 use Rattle.record.specs.declared.Car.{Car}
 use Rattle.record.specs.Cars.{same_car, no_car}
 use Rattle.record.proofs.Cars.{same_self}
@@ -50,18 +50,18 @@ module _ {M : Type 0} (meaning : M → Meaning) (admitted : ℕ → ℕ → Bool
     (prepared : Prepared meaning admitted (rows_of inner.plan) (length cs) ms ms') where
   sound : table_refusal admitted t ≡ None
   unfolding table_refusal
-  sound = (none_parts (table_faults admitted t) _ none).0
+  sound = (none_joined (table_faults admitted t) _ none).0
 
   rest : first_fault (list_faults cs ++ (fault (ltb room (length cs * timed_rows (rows_in t))) 13 0 ∷ [])) ≡ None
-  rest = (none_parts (table_faults admitted t) _ none).1
+  rest = (none_joined (table_faults admitted t) _ none).1
 
   list_sound : first_fault (list_faults cs) ≡ None
-  list_sound = (none_parts (list_faults cs) _ rest).0
+  list_sound = (none_joined (list_faults cs) _ rest).0
 
   roomy : length cs * timed_rows (rows_of inner.plan) ≤ room
   roomy =
-      let last = (none_parts (list_faults cs) _ rest).1 in
-      let off = (none_both (fault (ltb room (length cs * timed_rows (rows_in t))) 13 0) [] last).0 in
+      let last = (none_joined (list_faults cs) _ rest).1 in
+      let off = (none_parts (fault (ltb room (length cs * timed_rows (rows_in t))) 13 0) [] last).0 in
       subst (λ rows. length cs * timed_rows rows ≤ room) (sym plan.rows) (ltb-false room _ off)
 
   cars_are : cars_of inner.cars ≡ cs
@@ -72,7 +72,7 @@ module _ {M : Type 0} (meaning : M → Meaning) (admitted : ℕ → ℕ → Bool
     rows = λ _. plan.rows;
     numbers = λ _. plan.numbers;
     cars = cars_are;
-    apart = apart cs (none_both _ (position_faults cs) list_sound).1;
+    apart = apart cs (none_parts _ (position_faults cs) list_sound).1;
     states = λ i lt. ap (λ s. s.state) (filled.there i lt);
     size = prepared.long ∙ size;
     enough = roomy;

@@ -11,7 +11,7 @@ use Rattle.engine.proofs.Plans.{used_most, timed_most}
 use Rattle.refusal.specs.declared.Refusal.{Refusal}
 use Rattle.refusal.specs.Faults.{Fault, fault, refusal, first_fault}
 use Rattle.refusal.proofs.Held.{none_parts}
-use Rattle.refusal.proofs.Firsts.{after_none, before_rest, none_held, none_along, none_parts as none-parts-of}
+use Rattle.refusal.proofs.Firsts.{after_none, before_rest, none_held, none_along, none_joined}
 use Rattle.record.specs.declared.Car.{Car}
 use Rattle.mitl.specs.Outlook.{row_from, row_to}
 use Rattle.table.specs.declared.row.Fields.{Fields}
@@ -89,7 +89,7 @@ module _ (admitted : ℕ → ℕ → Bool) (t : List ℕ) where
   unfolding table_refusal
   all_admitted sound p lt timed =
       let last : List Fault = fault (not (ruled t)) 11 0 ∷ [] in
-      let walked = (none-parts-of (chain_faults admitted t) last (none-parts-of (head_faults t) (chain_faults admitted t ++ last) sound).1).0 in
+      let walked = (none_joined (chain_faults admitted t) last (none_joined (head_faults t) (chain_faults admitted t ++ last) sound).1).0 in
       let long : length (rows_in t) ≡ chain_length t = length-map-range_with_len (row_in t) 0 (chain_length t) in
       let none = none_along (row_faults admitted t) 0 (chain_length t) walked p (omega arith) (omega (arith, long)) in
       let is : row_at (rows_in t) p ≡ row_in t p = get_or-map-range_with_len (row_in t) 0 (chain_length t) p p (Input 0) (omega (arith, long)) (omega arith) in
