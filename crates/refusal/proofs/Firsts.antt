@@ -3,29 +3,22 @@ use Rattle.std.proofs.Common.{◌≡◌, ℕ, zero, suc, ◌+◌, ◌<◌, ◌�
 use Rattle.std.specs.List.{range_with_len, flat_map, AllByRecursion}
 use Rattle.std.proofs.lemmas.Bool.{cases_Bool, cases_eq, cond-true, cond-false}
 use Rattle.refusal.specs.Faults.{Fault, first_fault}
+use Rattle.refusal.proofs.Held.{none_parts as none_first, none_from}
 use Rattle.refusal.specs.declared.Refusal.{Refusal}
 
 -- where no fault is first, none holds
 pub none_held : (fs : List Fault) → first_fault fs ≡ None → AllByRecursion (λ f. f.held ≡ false) fs
 none_held [] e = tt
-none_held (f ∷ fs) e =
-    elim (cases_Bool f.held) [
-      | inl y ↦
-          let s : Some f.answer ≡ None = sym (cond-true f.held (Some f.answer) (first_fault fs) y) ∙ e in
-          let z : ◌≡◌ {A = ℕ} 0 1 = cc in
-          absurd (omega arith)
-      | inr y ↦ (y, none_held fs (sym (cond-false f.held (Some f.answer) (first_fault fs) y) ∙ e))
-    ]
+none_held (f ∷ fs) e = let parts = none_first f fs e in (parts.0, none_held fs parts.1)
 
 pub after_none : (xs ys : List Fault) → first_fault xs ≡ None → first_fault (xs ++ ys) ≡ first_fault ys
 after_none [] ys e = refl
 after_none (x ∷ xs) ys e =
-    let all = none_held (x ∷ xs) e in
-    cond-false x.held (Some x.answer) (first_fault (xs ++ ys)) all.0
-    ∙ after_none xs ys (sym (cond-false x.held (Some x.answer) (first_fault xs) all.0) ∙ e)
+    let parts = none_first x xs e in
+    cond-false x.held (Some x.answer) (first_fault (xs ++ ys)) parts.0 ∙ after_none xs ys parts.1
 
 pub before_rest : (xs ys : List Fault) (r : Refusal) → first_fault xs ≡ Some r → first_fault (xs ++ ys) ≡ Some r
-before_rest [] ys r e = let z : ◌≡◌ {A = ℕ} 0 1 = cc in absurd (omega arith)
+before_rest [] ys r e = cc
 before_rest (x ∷ xs) ys r e =
     elim (cases_Bool x.held) [
       | inl y ↦
@@ -39,9 +32,9 @@ before_rest (x ∷ xs) ys r e =
 pub none_parts : (xs ys : List Fault) → first_fault (xs ++ ys) ≡ None → (first_fault xs ≡ None) × (first_fault ys ≡ None)
 none_parts [] ys e = (refl, e)
 none_parts (x ∷ xs) ys e =
-    let held = (none_held (x ∷ (xs ++ ys)) e).0 in
-    let rest = none_parts xs ys (sym (cond-false x.held (Some x.answer) (first_fault (xs ++ ys)) held) ∙ e) in
-    (cond-false x.held (Some x.answer) (first_fault xs) held ∙ rest.0, rest.1)
+    let first = none_first x (xs ++ ys) e in
+    let rest = none_parts xs ys first.1 in
+    (none_from x xs first.0 rest.0, rest.1)
 
 module _ (f : ℕ → List Fault) where
   pub none_along : (a n : ℕ) → first_fault (flat_map f (range_with_len a n)) ≡ None → (k : ℕ) → a ≤ k → k < a + n → first_fault (f k) ≡ None
