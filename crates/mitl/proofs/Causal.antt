@@ -1,5 +1,6 @@
 -- What a formula says at a tick does not depend on later ticks. Assumes nothing.
 use Rattle.std.proofs.Common.{◌≡◌, ℕ, ◌<◌, ◌&&◌, ◌↔◌, List, ◌++◌, length, sym, ap, ◌∙◌, inl, inr, arith}
+use mathlib.Core.Logic.Iff
 use mathlib.Core.Path.{fun_ext}
 use Rattle.std.proofs.lemmas.List.{get_or_append_left}
 use Rattle.std.proofs.lemmas.Bool.Decides.{same_from_decides, Decides-like}
@@ -14,11 +15,8 @@ module _ (h x : List ℕ) where
   Sat-append (input i) t lt =
       let same = ap (bit i) (get_or_append_left h x 0 t lt) in
       (λ e. sym same ∙ e, λ e. same ∙ e)
-  Sat-append (neg f) t lt = let e = Sat-append f t lt in (λ no s. no (e.1 s), λ no s. no (e.0 s))
-  Sat-append (both f g) t lt =
-      let e = Sat-append f t lt in
-      let d = Sat-append g t lt in
-      (λ s. (e.0 s.0, d.0 s.1), λ s. (e.1 s.0, d.1 s.1))
+  Sat-append (neg f) t lt = Iff.not (Sat-append f t lt)
+  Sat-append (both f g) t lt = Iff.and (Sat-append f t lt) (Sat-append g t lt)
   Sat-append (either f g) t lt =
       let e = Sat-append f t lt in
       let d = Sat-append g t lt in

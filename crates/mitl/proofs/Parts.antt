@@ -2,6 +2,7 @@
 use Rattle.std.proofs.Common.{◌≡◌, ℕ, suc, ◌+◌, ◌-◌, ◌*◌, ◌/◌, ◌%◌, ◌<◌, ◌≤◌, ◌↔◌, List, [], ◌∷◌, length, get_or, replicate, sym, refl, ap, ◌∙◌, subst, inl, inr, le_trans, add-zero, mod-lt, mul-le-mul_left, mul-zero, le-div_iff_mul-le, mul-suc, div-mul-le_self, arith, length-append}
 use native.Mathlib.Nat.{add-mul-div_left, mul-add-div, div-eq_of_lt, div-eq-sub-div, div-add-mod, mul-div_cancel_left}
 use lib.ListN.{length-replicate}
+use mathlib.Core.Logic.Iff
 use Rattle.std.proofs.lemmas.List.{get_or_append_left, get_or-append_right, get_or-replicate}
 use Rattle.std.proofs.lemmas.Bool.{cases_lt}
 use Rattle.std.proofs.lemmas.Bool.Decides.{same_from_decides, Decides-like}
@@ -60,11 +61,8 @@ module _ (q : ℕ) (pos : 0 < q) where
   Sat-parts (input i) h k =
       let same = ap (bit i) (get_or-parts h k) in
       (λ e. sym same ∙ e, λ e. same ∙ e)
-  Sat-parts (neg f) h k = let e = Sat-parts f h k in (λ no s. no (e.1 s), λ no s. no (e.0 s))
-  Sat-parts (both f g) h k =
-      let e = Sat-parts f h k in
-      let d = Sat-parts g h k in
-      (λ s. (e.0 s.0, d.0 s.1), λ s. (e.1 s.0, d.1 s.1))
+  Sat-parts (neg f) h k = Iff.not (Sat-parts f h k)
+  Sat-parts (both f g) h k = Iff.and (Sat-parts f h k) (Sat-parts g h k)
   Sat-parts (either f g) h k =
       let e = Sat-parts f h k in
       let d = Sat-parts g h k in

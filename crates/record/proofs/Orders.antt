@@ -1,5 +1,5 @@
 -- Numbers of several bytes, and twelve bytes by their elements. Assumes nothing.
-use Rattle.std.proofs.Common.{◌≡◌, ℕ, suc, ◌+◌, ◌*◌, ◌/◌, ◌%◌, ◌<◌, List, [], ◌∷◌, length, get_or, drop, ap, ◌∙◌, ap₂, arith, drop-cons}
+use Rattle.std.proofs.Common.{◌≡◌, ℕ, suc, ◌+◌, ◌*◌, ◌/◌, ◌%◌, ◌<◌, List, [], ◌∷◌, length, get_or, drop, ap, ◌∙◌, arith, drop-cons}
 use Rattle.std.proofs.lemmas.List.{drop_all}
 use Rattle.record.specs.Layout.{two, four}
 
@@ -7,7 +7,7 @@ pub two_back : (a b n : ℕ) → a < 256 → b < 256 → n ≡ a * 256 + b → t
 two_back a b n p q e =
     let x : n / 256 % 256 ≡ a = omega arith in
     let y : n % 256 ≡ b = omega arith in
-    ap₂ (λ (u v : ℕ). u ∷ v ∷ []) x y
+    cc
 
 pub four_back : (a b c d n : ℕ) → a < 256 → b < 256 → c < 256 → d < 256 → n ≡ a * 16777216 + b * 65536 + c * 256 + d → four n ≡ a ∷ b ∷ c ∷ d ∷ []
 four_back a b c d n p q r s e =
@@ -15,10 +15,7 @@ four_back a b c d n p q r s e =
     let y : n / 65536 % 256 ≡ b = omega arith in
     let z : n / 256 % 256 ≡ c = omega arith in
     let w : n % 256 ≡ d = omega arith in
-    four_eq x y z w
-  where
-    four_eq : {a b c d e f g h : ℕ} → a ≡ e → b ≡ f → c ≡ g → d ≡ h → ◌≡◌ {A = List ℕ} (a ∷ b ∷ c ∷ d ∷ []) (e ∷ f ∷ g ∷ h ∷ [])
-    four_eq p q r s = λ i. p i ∷ q i ∷ r i ∷ s i ∷ []
+    cc
 
 -- the list by its first twelve elements
 pub twelve : (s : List ℕ) → length s ≡ 12 →

@@ -2,10 +2,10 @@
 use Rattle.std.proofs.Common.{◌≡◌, ℕ, ◌<◌, not, eqb, List, ◌∷◌, ◌++◌, length, get_or, None, Ok, Err, Result, sym, refl, ap, ◌∙◌, ap₂}
 use Rattle.std.proofs.lemmas.Bool.{eq-eqb, eqb-true, not-false, not_from_true, cond-false}
 use Rattle.refusal.specs.Faults.{first_fault}
-use Rattle.refusal.proofs.Held.{none_parts}
+use Rattle.refusal.proofs.Firsts.{none_held}
 use Rattle.record.specs.declared.Record.{Record}
 use Rattle.record.specs.declared.RecordFault.{RecordFault}
-use Rattle.record.specs.Layout.{bytes_of, fields_at, field_faults, apart_faults, reading_faults, letter_fault, zero_fault}
+use Rattle.record.specs.Layout.{bytes_of, fields_at, apart_faults, reading_faults}
 use Rattle.record.specs.Replies.{Fields, Checked, Read}
 use Rattle.record.proofs.Orders.{two_back, four_back, twelve}
 
@@ -32,7 +32,7 @@ reading_is : (bytes : List ℕ) (z : ℕ) (r : Record) → Fields bytes z r → 
 reading_is bytes z r f = reading_of bytes f.twelve ∙ ap₂ (λ x y. first_fault (apart_faults x y)) (sym (fields_are bytes z r f)) (sym f.zero_is)
 
 zero_from : (r : Record) (z : ℕ) → first_fault (apart_faults r z) ≡ None → z ≡ 0
-zero_from r z e = eqb-true z 0 (not-false _ (none_parts (zero_fault z) (field_faults r) (none_parts (letter_fault r.letter) (zero_fault z ∷ field_faults r) e).1).0)
+zero_from r z e = eqb-true z 0 (not-false _ (none_held (apart_faults r z) e).1.0)
 
 pub read_from : (bytes : List ℕ) (z : ℕ) (r : Record) → ((i : ℕ) → get_or bytes i 0 < 256) → Fields bytes z r → (x : Result Record RecordFault) → Checked r z x → Read bytes x
 read_from bytes z r low f (Ok s) h =

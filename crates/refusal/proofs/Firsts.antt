@@ -16,7 +16,7 @@ after_none [] ys e = refl
 after_none (x ∷ xs) ys e = let p = none_parts x xs e in cond-false x.held _ _ p.0 ∙ after_none xs ys p.1
 
 pub before_rest : (xs ys : List Fault) (r : Refusal) → first_fault xs ≡ Some r → first_fault (xs ++ ys) ≡ Some r
-before_rest [] ys r e = let z : ◌≡◌ {A = ℕ} 0 1 = cc in absurd (omega arith)
+before_rest [] ys r e = cc
 before_rest (x ∷ xs) ys r e = past x.held (before_rest xs ys r) e
   where
     past : (b : Bool) → (first_fault xs ≡ Some r → first_fault (xs ++ ys) ≡ Some r)

@@ -15,7 +15,7 @@ one_held [] = (λ e. both_ways false refl e, λ h. absurd h)
 one_held (f ∷ fs) = step f.held f.answer (first_fault fs) (one_held fs)
 
 cond_none : (b : Bool) (x : Refusal) (rest : Option Refusal) → cond b (Some x) rest ≡ None → (b ≡ false) × (rest ≡ None)
-cond_none true x rest e = let n : ◌≡◌ {A = ℕ} 0 1 = cc in absurd (omega arith)
+cond_none true x rest e = cc
 cond_none false x rest e = (refl, e)
 
 -- where there is no refusal the first fault does not hold, and the others come to none
