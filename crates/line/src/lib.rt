@@ -91,7 +91,7 @@ fn take_table<'t, R: Read + Drop, W: Write + Drop>(
 impl<'a, M: WindowMemory, R: Read + Drop, W: Write + Drop> Line<'a, M, R, W> {
     // Sets the watch with the cars and the table that come in.
     fn set(&mut self) -> io::Result<Result<Counts, SetFault>> {
-        let mut cars = [Car { number: 0 }; CARS];
+        let mut cars = [Car::NONE; CARS];
         let listed = take_cars(&mut self.wire, &mut cars)?;
         let mut table = [0; TABLE];
         let came = take_table(&mut self.wire, &mut table)?;
