@@ -12,7 +12,9 @@ use mitl::{Row, input_bit};
 use plan::plan::Plan;
 use window::WindowMemory;
 
-// The reading of one row, for how long it lasts while its operands keep theirs, and the place in the part past it.
+// The reading of one row, for how long it lasts while its operands keep theirs, and the place in the part past it. That
+// the row is readable and its place early stands here and at the other functions of one row: every row of a plan is so,
+// and a type of such rows would be the plan's array once more.
 fn settle<M: WindowMemory>(
     row: Row,
     word: u32,

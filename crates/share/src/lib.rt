@@ -56,7 +56,8 @@ impl From<ShareFault> for Refusal {
     }
 }
 
-// Whether a note is of this car and the rule was yes.
+// Whether a note is of this car and the rule was yes. A rule is a number below 16 here and in two methods of `CarTime`:
+// callers give a number and `busiest` a range, so a type of such numbers would be made at each of these calls.
 fn is_yes(note: &Note, car: Car, rule: u8) -> bool
     requires { rule < 16 }
     ensures { result ≡ yes_of car rule note.now }
