@@ -1,4 +1,5 @@
-//! Marks in words: mark d is bit d % 64 of word d / 64, bit 0 being the least.
+//! Marks in words: mark d is bit d % 64 of word d / 64, bit 0 being the least. What a word's bits mean hangs on its place,
+//! so functions take the place, `at`, and require that it is one of a word.
 ghost use Rattle.std.specs.Prelude.{◌≡◌, ℕ, ◌+◌, ◌-◌, ◌*◌, ◌/◌, ◌^◌, ◌<◌, ◌≤◌, false, not, ◌&&◌, ◌||◌, if◌then◌else◌, Decides, nat_le, nat_lt, slice_index};
 ghost use Rattle.mitl.specs.Formulas.{bit};
 ghost use Rattle.mitl.specs.Memory.{stretches};

@@ -1,2 +1,3 @@
 pub mod Spoken
 pub mod After
+pub mod Right

@@ -117,14 +117,14 @@ impl Slot {
     }
 }
 
-// The cars of a watch, in the order of their list.
+// The cars of a watch, in the order of their list: a fixed table, without a heap.
 #[derive(Clone, Copy)]
 pub struct CarTable {
     pub slots: [Slot; 32],
     pub count: usize,
 }
 
-// Places without a car.
+// Places without a car: such a place has the identity that no car has, and is past the count.
 fn unlisted() -> [Slot; 32]
     ensures { (k : ℕ) → slice_index_or result k no_slot ≡ no_slot }
 {
@@ -213,7 +213,8 @@ impl CarTable {
         self.slots[at].record(letter)
     }
 
-    // A record with this letter comes for a car: its place, once its state has changed.
+    // A record with this letter comes for a car: its place, once its state has changed. It carries the proof of `record`,
+    // which is thin, so that a wrong `record` fails at its own place.
     fn moved(&mut self, car: Car, letter: char) -> Result<usize, FeedFault>
         ensures { Recorded self.old car letter self.new result }
     {

@@ -1,5 +1,5 @@
 //! carwatch on a bad line: every third record is damaged or out of turn, and the last piece is cut off.
-//! The stored output is that of the slow reading.
+//! The stored output is that of the slow reading. It is a crate of its own since a crate has one stdin.
 
 #![tactic(auto)]
 

@@ -1,5 +1,5 @@
 //! carwatch on a long line: 314,547 ticks of three cars, windows of up to 20,000 ticks, and restarts.
-//! The stored output is that of the slow reading.
+//! The stored output is that of the slow reading. It is a crate of its own since a crate has one stdin.
 
 #![tactic(auto)]
 

@@ -1,5 +1,5 @@
 //! carwatch on nested windows: thirteen timed rows, ten of them over each other, with lengths at the windows' bounds.
-//! The stored output is that of the slow reading.
+//! The stored output is that of the slow reading. It is a crate of its own since a crate has one stdin.
 
 #![tactic(auto)]
 

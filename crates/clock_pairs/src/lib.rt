@@ -38,7 +38,8 @@ struct Window {
     ghost is_served: { served a b ≡ true },
 }
 
-// A window from a to b and its episodes.
+// A window from a to b and its episodes: a plain record with fixed places and a count, since memories lie in a lent list,
+// without a heap, and any content of one has to mean something.
 #[derive(Clone, Copy)]
 pub struct ClockPairs {
     a: u32,

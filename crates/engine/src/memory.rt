@@ -1,4 +1,5 @@
-//! One memory of a car's part, asked and told in its place.
+//! One memory of a car's part, asked and told in its place. Each function requires that the place lies in the part: one
+//! that was lent the memory alone could not say that the other memories stay.
 ghost use Rattle.std.specs.Prelude.{◌<◌, false, not, ◌&&◌, length, if◌then◌else◌};
 ghost use Rattle.mitl.specs.Memory.{cleared, took, ahead, Lasts};
 ghost use Rattle.engine.specs.Steps.{meant, Told};

@@ -50,6 +50,7 @@ fn settle<M: WindowMemory>(
 // The readings of all rows at the next tick, the verdict word, and for how long they stay if the input word does.
 #[derive(Clone, Copy)]
 pub(crate) struct Step {
+    // a place for each row that a plan can have, without a heap
     pub readings: [bool; 64],
     pub word: u16,
     pub lasts: Option<u32>,

@@ -134,7 +134,7 @@ fn window(row: &Row) -> Option<(u32, u32)> {
 
 // Each timed row's memory for its window.
 fn prepare<M: WindowMemory>(plan: &Plan, part: &mut [M]) {
-    let windows = plan.rows.iter().take(plan.count).filter_map(window);
+    let windows = plan.chain().iter().filter_map(window);
     for (memory, (a, b)) in part.iter_mut().zip(windows) {
         memory.prepare(a, b);
     }

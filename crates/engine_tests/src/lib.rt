@@ -21,7 +21,7 @@ mod tests {
 
     // What stands in a place that no note is written to.
     const UNUSED: Note = Note {
-        car: Car { number: 0 },
+        car: Car::NONE,
         word: 0xdead,
         ticks: 99,
     };

@@ -18,7 +18,7 @@ use window::WindowMemory;
 const PLACES: usize = 8;
 
 const NO_NOTE: Note = Note {
-    car: Car { number: 0 },
+    car: Car::NONE,
     word: 0,
     ticks: 0,
 };

@@ -5,7 +5,7 @@
 
 #![tactic(auto)]
 
-ghost use Rattle.std.specs.Prelude.{◌≡◌, ◌+◌, ◌*◌, ◌≤◌, length};
+ghost use Rattle.std.specs.Prelude.{◌≡◌, ◌+◌, ◌*◌, ◌≤◌, length, IfOk};
 ghost use Rattle.line.specs.Rest.{Rest};
 
 mod feed;
@@ -51,7 +51,9 @@ pub fn rest_of(whole: Record, taken: u32) -> Option<Record>
 fn take_cars<'c, R: Read + Drop, W: Write + Drop>(
     wire: &mut Wire<R, W>,
     cars: &'c mut [Car; CARS],
-) -> io::Result<&'c [Car]> {
+) -> io::Result<&'c [Car]>
+    ensures { IfOk result (λ came. length came.now ≤ 255) }
+{
     let mut number = [0];
     wire.take(&mut number)?;
     let mut bytes = [0; 2 * CARS];
@@ -74,7 +76,9 @@ fn table_size(rows: u8) -> usize
 fn take_table<'t, R: Read + Drop, W: Write + Drop>(
     wire: &mut Wire<R, W>,
     table: &'t mut [u8; TABLE],
-) -> io::Result<&'t [u8]> {
+) -> io::Result<&'t [u8]>
+    ensures { IfOk result (λ came. length came.now ≤ 4088) }
+{
     let head = wire.take(&mut table[..HEAD])?;
     if head < HEAD {
         return Ok(&table[..head]);
@@ -87,7 +91,7 @@ fn take_table<'t, R: Read + Drop, W: Write + Drop>(
 impl<'a, M: WindowMemory, R: Read + Drop, W: Write + Drop> Line<'a, M, R, W> {
     // Sets the watch with the cars and the table that come in.
     fn set(&mut self) -> io::Result<Result<Counts, SetFault>> {
-        let mut cars = [Car { number: 0 }; CARS];
+        let mut cars = [Car::NONE; CARS];
         let listed = take_cars(&mut self.wire, &mut cars)?;
         let mut table = [0; TABLE];
         let came = take_table(&mut self.wire, &mut table)?;

@@ -118,7 +118,8 @@ pub fn feed_car<M: WindowMemory>(
     }
 }
 
-// The parts of the first cars are prepared.
+// The parts of the first cars are prepared. It carries the proof of `prepare_cars`, which is thin, so that a wrong one
+// fails at its own place.
 #[tactic(auto, using(crate::proofs::Lent::prepared_none, crate::proofs::Exact::all_none))]
 fn prepare_first<M: WindowMemory>(plan: &Plan, cars: usize, memories: &mut [M])
     ensures prepared { Prepared M.meaning M.admitted (rows_of plan.now) cars memories.old memories.new }

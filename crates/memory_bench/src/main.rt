@@ -26,6 +26,7 @@ struct Times {
 }
 
 impl Times {
+    // The best of each number by itself: no order of whole measurements would give that.
     fn best(self, other: Times) -> Times {
         Times {
             take: self.take.min(other.take),

@@ -237,8 +237,8 @@ impl Record {
     }
 }
 
-// Carries the proof of read_back, which is thin over it.
-fn written_and_read(sent: Record) -> Result<Record, RecordFault>
+// Writes a record and reads it again: it comes back as itself.
+pub fn read_back(sent: Record) -> Result<Record, RecordFault>
     ensures { Back sent result }
 {
     let mut buffer = [0; 12];
@@ -246,25 +246,11 @@ fn written_and_read(sent: Record) -> Result<Record, RecordFault>
     Record::read(&buffer)
 }
 
-// Carries the proof of pass_on, which is thin over it.
-fn read_and_written(bytes: &[u8], buffer: &mut [u8]) -> Result<usize, RecordFault>
-    ensures { Passed bytes.now buffer.old buffer.new result }
-{
-    Record::read(bytes)?.write(buffer)
-}
-
-// Writes a record and reads it again: it comes back as itself.
-pub fn read_back(sent: Record) -> Result<Record, RecordFault>
-    ensures { Back sent result }
-{
-    written_and_read(sent)
-}
-
 // Reads a record and writes it again: the same twelve bytes are passed on.
 pub fn pass_on(bytes: &[u8], buffer: &mut [u8]) -> Result<usize, RecordFault>
     ensures { Passed bytes.now buffer.old buffer.new result }
 {
-    read_and_written(bytes, buffer)
+    Record::read(bytes)?.write(buffer)
 }
 
 #[cfg(test)]

@@ -161,7 +161,8 @@ pub fn share_of(notes: &[Note], car: Car, rule: u8) -> Result<Share, ShareFault>
 }
 
 impl BusiestRule {
-    // The other rule, if its figure is greater.
+    // The other rule, if its figure is greater. Not an order of rules: the library's `max_by_key` would take the last
+    // among equals, and the lowest is wanted.
     fn or(self, other: BusiestRule) -> BusiestRule
         ensures { Busier self other result }
     {

@@ -182,7 +182,8 @@ pub fn notes_of(heap: Global, pieces: &[Piece]) -> Result<Vec<Note>, AllocError>
         .collect(heap)
 }
 
-// The lowest car of the notes that is above a number.
+// The lowest car of the notes that is above a number. It carries the proof of `next_car`, which is thin, so that a wrong
+// one fails at its own place.
 fn lowest_above(notes: &[Note], number: u16) -> Option<Car>
     ensures { Next notes.now number result }
 {
@@ -200,7 +201,7 @@ pub fn next_car(notes: &[Note], above: u16) -> Option<Car>
     lowest_above(notes, above)
 }
 
-// The notes of a car, in their order.
+// The notes of a car, in their order. `own_notes` says more of them, and its proof is of that alone.
 fn notes_by(heap: Global, notes: &[Note], car: Car) -> Result<Vec<Note>, AllocError>
     ensures { IfOk result (λ v. v.items ≡ filter (of_car car) notes.now) }
 {

@@ -6,7 +6,7 @@ ghost use Rattle.mitl.specs.declared.Row.TheVariants.{Input};
 use mitl::Row;
 use plan::{is_rule, place_among};
 
-// The rows taken so far.
+// The rows taken so far, in the fixed arrays that a plan is built of.
 #[derive(Clone, Copy)]
 pub(crate) struct Draft {
     // the rows along the chain, and rows that mean nothing from `count` on
@@ -33,7 +33,7 @@ impl Draft {
     ghost use Rattle.table.specs.Faults.{operand_place, rule_used};
 
     // No row.
-    pub fn new() -> Draft
+    pub(crate) fn new() -> Draft
         ensures { result.count ≡ 0 }
     {
         Draft {
@@ -56,14 +56,14 @@ impl Draft {
     }
 
     // Whether the row with this number was taken.
-    pub fn has(&self, number: u8) -> bool
+    pub(crate) fn has(&self, number: u8) -> bool
         ensures { result ≡ is_some (place_among_lem (taken_numbers self.now) number) }
     {
         place_among(self.numbers(), number).is_some()
     }
 
     // The place of an operand: a row that was taken and is no rule.
-    pub fn operand(&self, number: u8) -> Option<u8>
+    pub(crate) fn operand(&self, number: u8) -> Option<u8>
         ensures { result ≡ operand_place (taken_numbers self.now) (taken_rows self.now) number }
     {
         let place = place_among(self.numbers(), number)?;
@@ -75,14 +75,14 @@ impl Draft {
     }
 
     // Whether a row that was taken is rule `number`.
-    pub fn has_rule(&self, number: u8) -> bool
+    pub(crate) fn has_rule(&self, number: u8) -> bool
         ensures { result ≡ rule_used (taken_rows self.now) number }
     {
         self.rows().iter().any(|row| is_the_rule(row, number))
     }
 
     // One more row at the end.
-    pub fn push(&mut self, row: Row, number: u8)
+    pub(crate) fn push(&mut self, row: Row, number: u8)
         requires { self.now.count < 64 }
         ensures count { self.new.count ≡ self.old.count + 1 }
         ensures rows { taken_rows self.new ≡ taken_rows self.old ++ row ∷ [] }

@@ -31,6 +31,7 @@ pub enum Letter {
 // A row as its sixteen bytes have it.
 #[derive(Clone, Copy)]
 pub struct Fields {
+    // as it stands in the row: a char, matched against literals where a `Letter` is made of it
     pub letter: char,
     pub number: u8,
     pub left: u8,
