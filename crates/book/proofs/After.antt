@@ -1,7 +1,7 @@
 -- What is true after any list of calls, from the contract of each. Assumes nothing.
-use Rattle.std.proofs.Common.{◌≡◌, ℕ, ◌/◌, ◌<◌, ◌≤◌, Bool, true, false, cond, ◌↔◌, List, [], ◌∷◌, ◌++◌, length, get_or, replicate, is_some, Some, None, Option, sym, refl, ap, ◌∙◌, subst, ap₂, inl, inr, mul_comm, div-lt_iff_lt-mul, arith}
+use Rattle.std.proofs.Common.{◌≡◌, ℕ, ◌/◌, ◌<◌, ◌≤◌, Bool, true, false, cond, ◌↔◌, List, [], ◌∷◌, ◌++◌, length, get_or, replicate, is_some, Some, None, Option, sym, refl, ap, ◌∙◌, subst, ap₂, mul_comm, div-lt_iff_lt-mul, arith}
 use Rattle.std.proofs.lemmas.List.{append-nil}
-use Rattle.std.proofs.lemmas.Bool.{false≢true, not_from_true, cond-true, cond-false, cases_Bool}
+use Rattle.std.proofs.lemmas.Bool.{false≢true, not_from_true, cond-false, cond_both}
 use Rattle.std.proofs.lemmas.List.FromFn.{length-map-range_with_len, get_or-map-range_with_len}
 use Rattle.mitl.specs.declared.Row.{Row}
 use Rattle.mitl.specs.Blocks.{row_looked}
@@ -79,13 +79,13 @@ module _ (admitted : ℕ → ℕ → Bool) (room : ℕ) where
 
   -- a refusal and no other answer is one
   accepted_no : (k : Book) (x : Call) (r : Refusal) → accepted_answer admitted room k x ≡ refused r → ⊥
-  accepted_no k (set t cs) r e = let n : ◌≡◌ {A = ℕ} 0 1 = cc in omega arith
-  accepted_no k (feed bytes places) r e = let n : ◌≡◌ {A = ℕ} 0 1 = cc in omega arith
+  accepted_no k (set t cs) r e = cc
+  accepted_no k (feed bytes places) r e = cc
   accepted_no k (query c row d) r e = shown_no k c d (timed_place k row) r e
     where
       shown_no : (k : Book) (c : Car) (d : ℕ) (p : Option ℕ) (r : Refusal) → shown_at k c d p ≡ refused r → ⊥
-      shown_no k c d None r e = let n : ◌≡◌ {A = ℕ} 0 1 = cc in omega arith
-      shown_no k c d (Some p) r e = let n : ◌≡◌ {A = ℕ} 0 1 = cc in omega arith
+      shown_no k c d None r e = cc
+      shown_no k c d (Some p) r e = cc
 
   refused_some : (k : Book) (x : Call) (notes : List Note) (answer : Answer) (o : Option Refusal) → Answered admitted room k x notes answer o
       → ((r : Refusal) × (answer ≡ refused r)) ↔ (is_some o ≡ true)
@@ -151,13 +151,13 @@ timed_on t row p e = found (place_among_lem (numbers_in t) row) refl e
     long = length-map-range_with_len (on_chain t) 0 (chain_length t) ∙ sym (length-map-range_with_len (row_in t) 0 (chain_length t))
 
     found : (o : Option ℕ) → place_among_lem (numbers_in t) row ≡ o → if_timed t o ≡ Some p → (p < length (rows_in t)) × (is_timed (row_at (rows_in t) p) ≡ true)
-    found None at is = let n : ◌≡◌ {A = ℕ} 0 1 = cc in absurd (omega arith)
-    found (Some q) at is = elim (cases_Bool (is_timed (row_at (rows_in t) q))) [
-      | inl on ↦
-          let same : q ≡ p = let s : ◌≡◌ {A = Option ℕ} (Some q) (Some p) = sym (cond-true _ _ _ on) ∙ is in cc in
-          (omega (arith, (found_place (numbers_in t) row q at).0, long), subst (λ i. is_timed (row_at (rows_in t) i) ≡ true) same on)
-      | inr off ↦ (let z : ◌≡◌ {A = Option ℕ} None (Some p) = sym (cond-false _ _ _ off) ∙ is in let n : ◌≡◌ {A = ℕ} 0 1 = cc in absurd (omega arith))
-    ]
+    found None at is = cc
+    found (Some q) at is =
+        cond_both (is_timed (row_at (rows_in t) q)) _ _ (λ o. o ≡ Some p → (p < length (rows_in t)) × (is_timed (row_at (rows_in t) p) ≡ true))
+        (λ on e.
+        let same : q ≡ p = cc in
+        (omega (arith, (found_place (numbers_in t) row q at).0, long), subst (λ i. is_timed (row_at (rows_in t) i) ≡ true) same on))
+        (λ _ e. cc) is
 
 module _ {W : Type 0} (admitted : ℕ → ℕ → Bool) (room : ℕ) (Keeps : W → Book → Type 0)
     (chained : (w : W) (k : Book) → Keeps w k → (c : Car) → listed k.cars c ≡ true → Chained (rows_of_book k)) where

@@ -1,10 +1,10 @@
 -- The verdicts of a whole history, run by run and note by note. Assumes nothing.
-use Rattle.std.proofs.Common.{◌≡◌, ℕ, ◌+◌, ◌-◌, ◌<◌, ◌≤◌, Bool, true, false, cond, List, [], ◌∷◌, ◌++◌, map, length, get_or, take, replicate, sym, ap, ◌∙◌, inl, inr, arith, length-append, length-take}
+use Rattle.std.proofs.Common.{◌≡◌, ℕ, ◌+◌, ◌-◌, ◌<◌, ◌≤◌, Bool, true, false, cond, List, [], ◌∷◌, ◌++◌, map, length, get_or, take, replicate, sym, refl, ap, ◌∙◌, inl, inr, arith, length-append, length-take}
 use lib.ListN.{length-replicate}
 use Rattle.std.specs.List.{range_with_len}
-use Rattle.std.proofs.lemmas.List.FromFn.{length-map-range_with_len, get_or-map-range_with_len, take-map-range_with_len}
-use Rattle.std.proofs.lemmas.List.{append_assoc, append-nil, get_or_append_left, get_or-append_right, ext_get_or, replicate-append-replicate}
-use Rattle.std.proofs.lemmas.Bool.{cases_lt, cases_Bool, cond-true, cond-false}
+use Rattle.std.proofs.lemmas.List.FromFn.{length-map-range_with_len, get_or-map-range_with_len, take-map-range_with_len, fill_by_all}
+use Rattle.std.proofs.lemmas.List.{append_assoc, append-nil, get_or_append_left, get_or-append_right, replicate-append-replicate}
+use Rattle.std.proofs.lemmas.Bool.{cases_lt, cond-true, cond_both}
 use Rattle.mitl.specs.declared.Row.{Row}
 use Rattle.mitl.specs.Rows.{verdict}
 use Rattle.mitl.specs.Runs.{Run, expanded, spelt, runs, ticks}
@@ -23,24 +23,18 @@ spoken rows h = map (verdict rows h) (range_with_len 0 (length h))
 
 counts_join : (g g' g'' : ℕ → ℕ) (t m : ℕ) → ((i : ℕ) → i < t → g i ≡ g'' i) → ((i : ℕ) → t ≤ i → i < t + m → g' i ≡ g'' i)
     → map g (range_with_len 0 t) ++ map g' (range_with_len t m) ≡ map g'' (range_with_len 0 (t + m))
-counts_join g g' g'' t m old new = ext_get_or 0 _ _ size at
+counts_join g g' g'' t m old new = fill_by_all g'' _ (t + m) 0 (simp (length-append, length-map-range_with_len)) at
   where
     front : length (map g (range_with_len 0 t)) ≡ t
     front = length-map-range_with_len g 0 t
 
-    size : length (map g (range_with_len 0 t) ++ map g' (range_with_len t m)) ≡ length (map g'' (range_with_len 0 (t + m)))
-    size = simp (length-append, length-map-range_with_len)
-
-    at : (i : ℕ) → i < length (map g (range_with_len 0 t) ++ map g' (range_with_len t m)) → get_or (map g (range_with_len 0 t) ++ map g' (range_with_len t m)) i 0 ≡ get_or (map g'' (range_with_len 0 (t + m))) i 0
-    at i lt =
-        let within : i < t + m = simp (length-append, length-map-range_with_len) at lt in
-        let right = get_or-map-range_with_len g'' 0 (t + m) i i 0 within (omega arith) in
-        elim (cases_lt i t) [
-          | inl less ↦ get_or_append_left _ (map g' (range_with_len t m)) 0 i (omega (arith, front)) ∙ get_or-map-range_with_len g 0 t i i 0 less (omega arith) ∙ old i less ∙ sym right
-          | inr more ↦
-              get_or-append_right (map g (range_with_len 0 t)) (map g' (range_with_len t m)) t i 0 front more ∙ get_or-map-range_with_len g' t m (i - t) i 0 (omega arith) (omega arith)
-              ∙ new i more within ∙ sym right
-        ]
+    at : (i : ℕ) → i < t + m → get_or (map g (range_with_len 0 t) ++ map g' (range_with_len t m)) i 0 ≡ g'' i
+    at i lt = elim (cases_lt i t) [
+      | inl less ↦ get_or_append_left _ (map g' (range_with_len t m)) 0 i (omega (arith, front)) ∙ get_or-map-range_with_len g 0 t i i 0 less (omega arith) ∙ old i less
+      | inr more ↦
+          get_or-append_right (map g (range_with_len 0 t)) (map g' (range_with_len t m)) t i 0 front more ∙ get_or-map-range_with_len g' t m (i - t) i 0 (omega arith) (omega arith)
+          ∙ new i more lt
+    ]
 
 module _ (rows : List Row) (h : List ℕ) (n w places : ℕ) where
   abbrev all_words : List ℕ
@@ -75,22 +69,19 @@ module _ (rows : List Row) (h : List ℕ) (n w places : ℕ) where
 with_car_same : {X : Type 0} (c : Car) (x : X) (f : Car → X) → with_car c x f c ≡ x
 with_car_same c x f = cond-true (same_car c c) x (f c) (same_self c)
 
+cond_over : {X : Type 0} (b : Bool) (x y z : X) → cond b x (cond b y z) ≡ cond b x z
+cond_over true x y z = refl
+cond_over false x y z = refl
+
 -- the notes of one car add to what was written for it, and for no other
 pub noted_is : (c : Car) (rs : List Run) (f : Car → List ℕ) (d : Car) → noted f (map (note c) rs) d ≡ with_car c (f c ++ expanded rs) f d
-noted_is c [] f d =
-    elim (cases_Bool (same_car d c)) [
-      | inl e ↦ ap f (same_is d c e) ∙ sym (append-nil (f c)) ∙ sym (cond-true (same_car d c) _ _ e)
-      | inr e ↦ sym (cond-false (same_car d c) _ _ e)
-    ]
+noted_is c [] f d = cond_both (same_car d c) _ _ (λ x. f d ≡ x) (λ e. ap f (same_is d c e) ∙ sym (append-nil (f c))) (λ _. refl)
 noted_is c (r ∷ rs) f d =
     let g : Car → List ℕ = with_car c (f c ++ spelt r) f in
     noted_is c rs g d
-    ∙ elim (cases_Bool (same_car d c)) [
-      | inl e ↦
-          cond-true (same_car d c) _ _ e ∙ ap (λ x. x ++ expanded rs) (with_car_same c (f c ++ spelt r) f) ∙ append_assoc (f c) (spelt r) (expanded rs)
-          ∙ sym (cond-true (same_car d c) _ _ e)
-      | inr e ↦ cond-false (same_car d c) _ _ e ∙ cond-false (same_car d c) _ _ e ∙ sym (cond-false (same_car d c) _ _ e)
-    ]
+    ∙ cond_over (same_car d c) _ _ _
+    ∙ ap (λ x. with_car c x f d)
+    (ap (λ x. x ++ expanded rs) (with_car_same c (f c ++ spelt r) f) ∙ append_assoc (f c) (spelt r) (expanded rs))
 
 pub cond_map : {X Y : Type 0} (G : Y → X) (b : Bool) {x x' : X} {y y' : Y} → x ≡ G y → x' ≡ G y' → cond b x x' ≡ G (cond b y y')
 cond_map G true p q = p
