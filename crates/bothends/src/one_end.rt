@@ -24,9 +24,9 @@ pub fn verdicts<M: WindowMemory>(
     records: &[Record],
 ) -> anyhow::Result<Vec<u16>> {
     let mut watch = Watch::new(memories);
-    if watch.set(&TABLE, cars).is_err() {
-        return Err(anyhow!("the table is refused"));
-    }
+    watch
+        .set(&TABLE, cars)
+        .map_err(|_| anyhow!("the table is refused"))?;
     let mut words = Vec::new(heap);
     for record in records {
         take(&mut watch, *record, &mut words)?;
@@ -56,12 +56,12 @@ fn feed<M: WindowMemory>(
 ) -> anyhow::Result<u32> {
     let mut bytes = [0; 12];
     let mut notes = [NOTE; PLACES];
-    if record.write(&mut bytes).is_err() {
-        return Err(anyhow!("a record cannot be written"));
-    }
-    let Ok(fed) = watch.feed(&bytes, &mut notes) else {
-        return Err(anyhow!("a record is refused"));
-    };
+    record
+        .write(&mut bytes)
+        .map_err(|_| anyhow!("a record cannot be written"))?;
+    let fed = watch
+        .feed(&bytes, &mut notes)
+        .map_err(|_| anyhow!("a record is refused"))?;
     for note in notes.iter().take(fed.notes) {
         if note.car.is(CAR) {
             spell(*note, words)?;

@@ -117,14 +117,16 @@ impl Slot {
     }
 }
 
-// The cars of a watch, in the order of their list: a fixed table, without a heap.
+// The cars of a watch, in the order of their list: a fixed table of car structs, and plain data, as all that a watch
+// keeps beside its memories.
 #[derive(Clone, Copy)]
 pub struct CarTable {
     pub slots: [Slot; 32],
     pub count: usize,
 }
 
-// Places without a car: such a place has the identity that no car has, and is past the count.
+// Places without a car. Such a place is past the count, and holds the identity that no car has: whether a car stands
+// there is asked of the count alone.
 fn unlisted() -> [Slot; 32]
     ensures { (k : ℕ) → slice_index_or result k no_slot ≡ no_slot }
 {
@@ -199,7 +201,7 @@ impl CarTable {
     pub fn list(cars: &[Car]) -> Result<CarTable, ListFault>
         ensures { Listed cars.now result }
     {
-        if cars.len() == 0 || cars.len() > 32 {
+        if cars.is_empty() || cars.len() > 32 {
             return Err(ListFault::Size);
         }
         CarTable::filled(cars)

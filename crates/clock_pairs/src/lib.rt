@@ -38,8 +38,8 @@ struct Window {
     ghost is_served: { served a b ≡ true },
 }
 
-// A window from a to b and its episodes: a plain record with fixed places and a count, since memories lie in a lent list,
-// without a heap, and any content of one has to mean something.
+// A window from a to b and its episodes: a plain record with fixed places and a count, since a memory is `Copy`, lies in
+// a lent list, and means something with any content.
 #[derive(Clone, Copy)]
 pub struct ClockPairs {
     a: u32,
@@ -405,6 +405,7 @@ impl Admission for ClockPairs {
     }
 }
 
+// Thin over private functions with the same contracts, which carry the proofs: so a wrong one fails at its own place.
 impl WindowMemory for ClockPairs {
     ghost meaning = { meaning_of };
 

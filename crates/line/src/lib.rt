@@ -98,7 +98,8 @@ impl<'a, M: WindowMemory, R: Read + Drop, W: Write + Drop> Line<'a, M, R, W> {
         Ok(self.watch.set(came, listed))
     }
 
-    // Records until the input ends. A last piece under twelve bytes is one more.
+    // Records until the input ends. A last piece under twelve bytes is one more. The count is there since nothing says
+    // that an input ends.
     fn serve_records(&mut self) -> io::Result<()> {
         for _ in 0..u64::MAX {
             let mut bytes = [0; 12];

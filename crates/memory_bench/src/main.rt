@@ -85,9 +85,9 @@ fn row<M: WindowMemory>(
 }
 
 fn measured<M: WindowMemory>(rt: &HostRuntime, memories: &mut [M], b: u32) -> io::Result<Times> {
-    let (look, looked) = timed(rt, || looks(memories))?;
-    let (run, ran) = timed(rt, || runs(memories))?;
-    let (count, counted) = timed(rt, || counts(memories))?;
+    let (look, looked) = timed(rt, || summed(memories, |m, i| u32::from(m.look(i % 64))))?;
+    let (run, ran) = timed(rt, || summed(memories, |m, i| number_of(m.run(i % 3 == 0))))?;
+    let (count, counted) = timed(rt, || summed(memories, |m, _| m.count()))?;
     let (take, _) = timed(rt, || takes(memories, b))?;
     Ok(Times {
         take,
@@ -129,35 +129,21 @@ fn takes<M: WindowMemory>(memories: &mut [M], b: u32) {
     }
 }
 
-fn looks<M: WindowMemory>(memories: &[M]) -> u32 {
+// The sum of what the memories reply in all rounds.
+fn summed<M: WindowMemory, F: Fn(&M, u32) -> u32>(memories: &[M], reply: F) -> u32
+    requires { F.IsAlwaysCallable reply }
+{
     let mut sum = 0u32;
     for i in 0..ROUNDS {
         for m in memories {
-            sum = sum.wrapping_add(u32::from(m.look(i % 64)));
+            sum = sum.wrapping_add(reply(m, i));
         }
     }
     sum
 }
 
-fn runs<M: WindowMemory>(memories: &[M]) -> u32 {
-    let mut sum = 0u32;
-    for i in 0..ROUNDS {
-        for m in memories {
-            let (verdict, ticks) = m.run(i % 3 == 0);
-            sum = sum
-                .wrapping_add(u32::from(verdict))
-                .wrapping_add(ticks.unwrap_or(0));
-        }
-    }
-    sum
-}
-
-fn counts<M: WindowMemory>(memories: &[M]) -> u32 {
-    let mut sum = 0u32;
-    for _ in 0..ROUNDS {
-        for m in memories {
-            sum = sum.wrapping_add(m.count());
-        }
-    }
-    sum
+// A reply on a run as one number.
+fn number_of(run: (bool, Option<u32>)) -> u32 {
+    let (verdict, ticks) = run;
+    u32::from(verdict).wrapping_add(ticks.unwrap_or(0))
 }

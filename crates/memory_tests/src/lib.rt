@@ -104,11 +104,7 @@ mod tests {
         no: (bool, Option<u32>),
         yes: (bool, Option<u32>),
     ) {
-        let (verdict, ticks) = m.run(false);
-        assert_eq!(rt; verdict, no.0);
-        assert_eq!(rt; ticks, no.1);
-        let (verdict, ticks) = m.run(true);
-        assert_eq!(rt; verdict, yes.0);
-        assert_eq!(rt; ticks, yes.1);
+        assert_eq!(rt; m.run(false), no);
+        assert_eq!(rt; m.run(true), yes);
     }
 }

@@ -45,7 +45,7 @@ impl Car {
         self.number.to_be_bytes()
     }
 
-    // Whether two cars are one, in the words of the contracts; in code == says it.
+    // Whether two cars are one: what == says, with a contract of its own for it.
     pub fn is(self, other: Car) -> bool
         ensures { result ≡ same_car self other }
     {
@@ -173,7 +173,7 @@ impl Record {
     fn check_fields(self) -> Result<(), RecordFault>
         ensures { CheckedFields self result }
     {
-        if self.car.number == 0 {
+        if self.car == Car::NONE {
             return Err(RecordFault::BadCar);
         }
         if !length_fits(self.letter, self.ticks) {

@@ -93,6 +93,7 @@ fn note_in(line: &str) -> Option<Note>
     let number = car.parse::<u16>().ok()?;
     let word = word.parse::<u16>().ok()?;
     let ticks = ticks.parse::<u32>().ok()?;
+    // no car is made of the number 0
     if number == 0 {
         return None;
     }
@@ -194,7 +195,7 @@ fn lowest_above(notes: &[Note], number: u16) -> Option<Car>
         .min()
 }
 
-// The lowest car above a number.
+// The lowest car above a number: a number and not a car, since 0 is no car and below all.
 pub fn next_car(notes: &[Note], above: u16) -> Option<Car>
     ensures { Next notes.now above result }
 {

@@ -6,7 +6,7 @@ ghost use Rattle.mitl.specs.declared.Row.TheVariants.{Input};
 use mitl::Row;
 use plan::{is_rule, place_among};
 
-// The rows taken so far, in the fixed arrays that a plan is built of.
+// The rows taken so far, in the fixed arrays that a plan is built of. No plan yet: a plan has a rule.
 #[derive(Clone, Copy)]
 pub(crate) struct Draft {
     // the rows along the chain, and rows that mean nothing from `count` on

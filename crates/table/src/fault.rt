@@ -5,7 +5,7 @@ ghost use Rattle.table.specs.declared.fault.TableFault.TheVariants.{Row};
 
 use refusal::Refusal;
 
-// A fault of one row, with the row's number in its table.
+// A fault of one row, with the row's number in its table: in each case, so that it is made and passed up in one word.
 #[derive(Clone, Copy)]
 pub enum RowFault {
     // unknown letter

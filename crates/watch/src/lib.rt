@@ -183,6 +183,7 @@ impl<'a, M: WindowMemory> Watch<'a, M> {
     }
 }
 
+// Carries the proof of `begin`, which is thin.
 fn set_and_feed<M: WindowMemory>(
     watch: &mut Watch<M>,
     table: &[u8],
@@ -212,6 +213,7 @@ pub fn begin<M: WindowMemory>(
     set_and_feed(watch, table, cars, bytes, notes)
 }
 
+// Carries the proof of `both_ends`, which is thin.
 fn agree<M: WindowMemory, N: WindowMemory>(unit: &[u16], desk: &[u16]) -> bool
     ensures value { (result ≡ true → unit.now ≡ desk.now) × (unit.now ≡ desk.now → result ≡ true) }
     ensures promise { BothEnds M.meaning M.admitted N.meaning N.admitted }

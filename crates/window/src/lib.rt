@@ -47,7 +47,7 @@ pub trait WindowMemory: Copy + Admission {
         ensures { meaning self.new ≡ took operand n (meaning self.old) };
 
     // The verdict of the next tick, and for how many ticks it lasts if the operand keeps this value from now on:
-    // `None` where it never changes.
+    // `None` where it never changes. A pair, which the step that looks for the shortest length takes apart.
     fn run(&self, operand: bool) -> (bool, Option<u32>)
         ensures next { result.0 ≡ ahead (meaning self.now).a operand (meaning self.now).mark 0 }
         ensures lasts { Lasts (ahead (meaning self.now).a operand (meaning self.now).mark) result.0 result.1 };
