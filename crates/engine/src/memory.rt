@@ -13,8 +13,8 @@ pub(crate) fn run_always<M: WindowMemory>(memory: &M, left: bool) -> (bool, Opti
     turned(memory.run(!left))
 }
 
-// S runs on by the right reading; where the left is no its verdict is no for ever. The reply is the pair that a memory's
-// `run` answers.
+// S runs on by the right reading; where the left is no its verdict is no for ever. The reply is the pair that a
+// memory's `run` answers.
 pub(crate) fn run_since<M: WindowMemory>(memory: &M, left: bool, right: bool) -> (bool, Option<u32>)
     ensures { Lasts (λ d. left && ahead (M.meaning memory.now).a right (M.meaning memory.now).mark d) result.0 result.1 }
 {
