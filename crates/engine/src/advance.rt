@@ -7,7 +7,7 @@ ghost use Rattle.plan.specs.Rows.{rows_of};
 ghost use Rattle.engine.specs.Means.{Changed};
 ghost use Rattle.engine.specs.Steps.{Advanced, Readable, Told, reading as reading_of};
 
-use crate::memory::{take_always, take_at, take_since};
+use crate::memory::{take_always, take_since};
 use mitl::Row;
 use plan::plan::Plan;
 use window::WindowMemory;
@@ -29,15 +29,15 @@ fn advance_row<M: WindowMemory>(
 {
     match row {
         Row::Once { left, .. } => {
-            take_at(part, at, vs[left as usize], n);
+            part[at].take(vs[left as usize], n);
             at + 1
         }
         Row::Always { left, .. } => {
-            take_always(part, at, vs[left as usize], n);
+            take_always(&mut part[at], vs[left as usize], n);
             at + 1
         }
         Row::Since { left, right, .. } => {
-            take_since(part, at, vs[left as usize], vs[right as usize], n);
+            take_since(&mut part[at], vs[left as usize], vs[right as usize], n);
             at + 1
         }
         _ => at,

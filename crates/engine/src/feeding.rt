@@ -15,7 +15,7 @@ use window::WindowMemory;
 pub(crate) fn is_idle<M: WindowMemory>(plan: &Plan, ticks: u32, part: &[M], notes: &[Note]) -> bool
     ensures { result ≡ idle (rows_of plan.now) ticks part.now notes.now }
 {
-    ticks == 0 || notes.len() == 0 || part.len() < plan.timed()
+    ticks == 0 || notes.is_empty() || part.len() < plan.timed()
 }
 
 // Whether another run is written: there are ticks left and a place.

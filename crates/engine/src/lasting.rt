@@ -17,13 +17,10 @@ pub(crate) fn shorter_of(x: Option<u32>, y: Option<u32>) -> Option<u32>
 pub(crate) fn capped_at(lasts: Option<u32>, left: u32) -> u32
     ensures { result ≡ capped lasts left }
 {
-    match lasts {
-        Some(n) => n.min(left),
-        None => left,
-    }
+    lasts.map_or(left, |n| n.min(left))
 }
 
-// A verdict turned round lasts as long.
+// A verdict turned round lasts as long. The pair is the one that a memory's `run` answers.
 pub(crate) fn turned(run: (bool, Option<u32>)) -> (bool, Option<u32>)
     ensures { (result.0 ≡ not run.0) × (result.1 ≡ run.1) }
 {

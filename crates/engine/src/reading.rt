@@ -6,15 +6,16 @@ ghost use Rattle.plan.specs.Rows.{rows_of};
 ghost use Rattle.engine.specs.Steps.{Foresees, Readable, meant, reading as reading_of, seen};
 
 use crate::lasting::shorter_of;
-use crate::memory::{run_always, run_at, run_since};
+use crate::memory::{run_always, run_since};
 use crate::word::with_row;
 use mitl::{Row, input_bit};
 use plan::plan::Plan;
 use window::WindowMemory;
 
-// The reading of one row, for how long it lasts while its operands keep theirs, and the place in the part past it. That
-// the row is readable and its place early stands here and at the other functions of one row: every row of a plan is so,
-// and a type of such rows would be the plan's array once more.
+// The reading of one row and for how long it lasts while its operands keep theirs, the pair that a memory's `run`
+// answers, and the place in the part past the row. That the row is readable and its place early stands here and at the
+// other functions of one row: every row of a plan is so, and a type of such rows would be the plan's array once more.
+#[tactic(auto, using(crate::proofs::Meant::meant_is))]
 fn settle<M: WindowMemory>(
     row: Row,
     word: u32,
@@ -34,15 +35,15 @@ fn settle<M: WindowMemory>(
         Row::And { left, right } => (vs[left as usize] && vs[right as usize], None, at),
         Row::Or { left, right } => (vs[left as usize] || vs[right as usize], None, at),
         Row::Once { left, .. } => {
-            let (yes, n) = run_at(part, at, vs[left as usize]);
+            let (yes, n) = part[at].run(vs[left as usize]);
             (yes, n, at + 1)
         }
         Row::Always { left, .. } => {
-            let (yes, n) = run_always(part, at, vs[left as usize]);
+            let (yes, n) = run_always(&part[at], vs[left as usize]);
             (yes, n, at + 1)
         }
         Row::Since { left, right, .. } => {
-            let (yes, n) = run_since(part, at, vs[left as usize], vs[right as usize]);
+            let (yes, n) = run_since(&part[at], vs[left as usize], vs[right as usize]);
             (yes, n, at + 1)
         }
         Row::Rule { left, .. } => (vs[left as usize], None, at),
@@ -52,7 +53,8 @@ fn settle<M: WindowMemory>(
 // The readings of all rows at the next tick, the verdict word, and for how long they stay if the input word does.
 #[derive(Clone, Copy)]
 pub(crate) struct Step {
-    // a place for each row that a plan can have, without a heap
+    // a place for each row that a plan can have: a fixed array, since readings are looked up by the rows' places while
+    // they are made, and a step is Copy
     pub readings: [bool; 64],
     pub word: u16,
     pub lasts: Option<u32>,

@@ -11,9 +11,9 @@ use crate::reading::{Step, next};
 use plan::plan::Plan;
 use window::WindowMemory;
 
-// Takes the ticks during which no reading changes, at most so many, and says how many. That the part is long enough for
-// the plan stands here, in `run`, in `next` and in `advance`: a struct of the plan and the lent part would need in each
-// of them two clauses instead, that the plan stays and that the part is still the one that was lent.
+// Takes the ticks during which no reading changes, at most so many, and says how many. That the part is long enough
+// for the plan stands here, in `run`, in `next` and in `advance`: a struct of the plan and the lent part would need in
+// each of them two clauses instead, that the plan stays and that the part is still the one that was lent.
 #[tactic(auto, using(crate::proofs::Lengths::capped_positive, crate::proofs::Lengths::capped_most))]
 fn hold<M: WindowMemory>(plan: &Plan, word: u32, step: &Step, most: u32, part: &mut [M]) -> u32
     requires enough { timed_rows (rows_of plan.now) ≤ length part.old }
