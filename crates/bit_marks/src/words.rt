@@ -1,5 +1,5 @@
-//! Marks in words: mark d is bit d % 64 of word d / 64, bit 0 being the least. What a word's bits mean hangs on its place,
-//! so functions take the place, `at`, and require that it is one of a word.
+//! Marks in words: mark d is bit d % 64 of word d / 64, bit 0 being the least. What a word's bits mean hangs on its
+//! place, so functions take the place, `at`, and require that it is one of a word.
 ghost use Rattle.std.specs.Prelude.{◌≡◌, ℕ, ◌+◌, ◌-◌, ◌*◌, ◌/◌, ◌^◌, ◌<◌, ◌≤◌, false, not, ◌&&◌, ◌||◌, if◌then◌else◌, Decides, nat_le, nat_lt, slice_index};
 ghost use Rattle.mitl.specs.Formulas.{bit};
 ghost use Rattle.mitl.specs.Memory.{stretches};
@@ -75,7 +75,8 @@ impl Marks {
         self.moved(n, at) | between(reach, at)
     }
 
-    // The marks moved down by n places, those of `reach` set too, in the first `count` words; past these all marks are no.
+    // The marks moved down by n places, those of `reach` set too, in the first `count` words; past these all marks are
+    // no.
     pub(crate) fn advanced(&self, count: usize, n: u32, reach: &Range<usize>) -> Marks
         requires { count ≤ 16 }
         ensures kept { (d : ℕ) → d < 64 * count → marked result.words d ≡ (marked self.now.words (d + n) || (nat_le reach.now.start d && nat_lt d reach.now.end)) }

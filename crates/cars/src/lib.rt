@@ -215,8 +215,8 @@ impl CarTable {
         self.slots[at].record(letter)
     }
 
-    // A record with this letter comes for a car: its place, once its state has changed. It carries the proof of `record`,
-    // which is thin, so that a wrong `record` fails at its own place.
+    // A record with this letter comes for a car: its place, once its state has changed. It carries the proof of
+    // `record`, which is thin, so that a wrong `record` fails at its own place.
     fn moved(&mut self, car: Car, letter: char) -> Result<usize, FeedFault>
         ensures { Recorded self.old car letter self.new result }
     {

@@ -1,5 +1,5 @@
-//! Watches the cars of a line: standard input brings the cars, a rule table and records, and standard output gets a line
-//! for each reply. The windows are kept by clock pairs.
+//! Watches the cars of a line: standard input brings the cars, a rule table and records, and standard output gets a
+//! line for each reply. The windows are kept by clock pairs.
 
 #![tactic(auto)]
 

@@ -1,8 +1,8 @@
 //! Clock pairs: the window memory that holds the episodes of its operand, each by the ages of its rise and its fall.
 //!
-//! An episode is one unbroken stretch of yes ticks. It reaches the ticks ahead from `a - rise` on and before `b - fall`.
-//! It is dropped once its fall is b ticks old, and a gap of at most b - a ticks is erased, since the marks show no gap then.
-//! So the episodes are the stretches of the outlook, and a served window never has more than 32 of them.
+//! An episode is one unbroken stretch of yes ticks. It reaches the ticks ahead from `a - rise` on and before
+//! `b - fall`. It is dropped once its fall is b ticks old, and a gap of at most b - a ticks is erased, since the marks
+//! show no gap then. So the episodes are the stretches of the outlook, and a served window never has more than 32.
 
 #![tactic(auto)]
 
@@ -38,8 +38,8 @@ struct Window {
     ghost is_served: { served a b ≡ true },
 }
 
-// A window from a to b and its episodes: a plain record with fixed places and a count, since a memory is `Copy`, lies in
-// a lent list, and means something with any content.
+// A window from a to b and its episodes: a plain record with fixed places and a count, since a memory is `Copy`, lies
+// in a lent list, and means something with any content.
 #[derive(Clone, Copy)]
 pub struct ClockPairs {
     a: u32,

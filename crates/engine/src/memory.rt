@@ -1,4 +1,4 @@
-//! One memory, asked and told as the letter of its row says: B or S. O asks and tells the memory itself.
+//! One memory, asked and told as the letter of its row says: B or S. D asks and tells the memory itself.
 ghost use Rattle.std.specs.Prelude.{◌≡◌, false, not, ◌&&◌, if◌then◌else◌};
 ghost use Rattle.mitl.specs.Memory.{cleared, took, ahead, Lasts};
 

@@ -113,8 +113,8 @@ impl<'a, M: WindowMemory, R: Read + Drop, W: Write + Drop> Line<'a, M, R, W> {
     }
 }
 
-// Serves a line from its first byte to its end, with these memories. Where there is no memory for the line's two buffers
-// it fails before the memories are touched.
+// Serves a line from its first byte to its end, with these memories. Where there is no memory for the line's two
+// buffers it fails before the memories are touched.
 pub fn serve<M: WindowMemory, R: Read + Drop, W: Write + Drop>(
     heap: Global,
     memories: &mut [M],

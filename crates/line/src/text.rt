@@ -13,8 +13,8 @@ use std::io::Write;
 // The bytes of the longest line: a letter, three numbers of a space and twenty digits each, and a line feed.
 const ROOM: usize = 65;
 
-// A line, put together from its end: it stands in the bytes from `start` on. As a string of fixed capacity (ArrayString),
-// to which the digits are copied, it took up to a twentieth more of all the time of carwatch.
+// A line, put together from its end: it stands in the bytes from `start` on. As a string of fixed capacity
+// (ArrayString), to which the digits are copied, it took up to a twentieth more of all the time of carwatch.
 #[derive(Drop)]
 pub struct Text {
     bytes: [u8; ROOM],

@@ -37,8 +37,8 @@ impl<R: Read + Drop, W: Write + Drop> Wire<R, W> {
         self.input.read(piece)
     }
 
-    // Fills a piece with what comes in next: how many bytes came, all that it has room for unless the input ended. A loop
-    // of its own, since the library's `read_exact` does not tell how many bytes came before the end.
+    // Fills a piece with what comes in next: how many bytes came, all that it has room for unless the input ended. A
+    // loop of its own, since the library's `read_exact` does not tell how many bytes came before the end.
     pub fn take(&mut self, piece: &mut [u8]) -> io::Result<usize>
         ensures { IfOk result (λ n. n ≤ length piece.old) }
     {

@@ -183,8 +183,8 @@ pub fn notes_of(heap: Global, pieces: &[Piece]) -> Result<Vec<Note>, AllocError>
         .collect(heap)
 }
 
-// The lowest car of the notes that is above a number. It carries the proof of `next_car`, which is thin, so that a wrong
-// one fails at its own place.
+// The lowest car of the notes that is above a number. It carries the proof of `next_car`, which is thin, so that a
+// wrong one fails at its own place.
 fn lowest_above(notes: &[Note], number: u16) -> Option<Car>
     ensures { Next notes.now number result }
 {

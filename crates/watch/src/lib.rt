@@ -78,8 +78,8 @@ impl<'a, M: WindowMemory> Watch<'a, M> {
         Watch::made(memories)
     }
 
-    // Set: a table and a car list stand from now on, all cars vacant; the reply is the chain's count of rows, R rows and
-    // timed rows.
+    // Set: a table and a car list stand from now on, all cars vacant; the reply is the chain's count of rows, R rows
+    // and timed rows.
     pub fn set(&mut self, table: &[u8], cars: &[Car]) -> Result<Counts, SetFault>
         ensures step { Steps M.meaning M.admitted (held_by self.old) (set_made table.now cars.now result) (held_by self.new) }
         ensures refused { is_ok result ≡ false → held_by self.new ≡ held_by self.old }
@@ -89,8 +89,8 @@ impl<'a, M: WindowMemory> Watch<'a, M> {
         self.put(table, cars)
     }
 
-    // Feed: one record, and places for the notes of its verdicts; the reply is the notes written and the ticks that they
-    // cover.
+    // Feed: one record, and places for the notes of its verdicts; the reply is the notes written and the ticks that
+    // they cover.
     pub fn feed(&mut self, bytes: &[u8], notes: &mut [Note]) -> Result<Fed, FeedFault>
         ensures step { Steps M.meaning M.admitted (held_by self.old) (feed_made bytes.now notes.new result) (held_by self.new) }
         ensures others { (length notes.new ≡ length notes.old) × (drop (notes_told result) notes.new ≡ drop (notes_told result) notes.old) }
