@@ -322,7 +322,8 @@ impl ClockPairs {
         };
     }
 
-    // The reply on the run that begins.
+    // The reply on the run that begins. By a match, as in the two below: with `map_or` and `is_some_and` their proofs did
+    // not close.
     fn reply(&self, operand: bool) -> (bool, Option<u32>)
         ensures next { result.0 ≡ ahead (meaning_of self.now).a operand (meaning_of self.now).mark 0 }
         ensures lasts { Lasts (ahead (meaning_of self.now).a operand (meaning_of self.now).mark) result.0 result.1 }

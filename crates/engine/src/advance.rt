@@ -50,6 +50,7 @@ pub(crate) fn advance<M: WindowMemory>(plan: &Plan, vs: &[bool; 64], n: u32, par
     requires { timed_rows (rows_of plan.now) ≤ length part.old }
     ensures { Advanced M.meaning (rows_of plan.now) (reading_of vs.now) n (length (rows_of plan.now)) part.old part.new }
 {
+    // the place goes on past each row that has a memory, as in `next`, which reads the other rows in between
     let mut at = 0;
     for row in plan.chain() {
         at = advance_row(*row, vs, n, part, at);

@@ -277,7 +277,8 @@ pub struct Step {
     pub next: Option<u8>,
 }
 
-// Row `at` of the table after the rows of the draft, or its first fault; `told` is the table's row count.
+// Row `at` of the table after the rows of the draft, or its first fault; `told` is the table's row count. The three go
+// down to the test of the next row one by one: the count is the table's, the draft grows, and the row is each time another.
 pub(crate) fn take<A: Admission>(
     bytes: &[u8],
     told: u8,

@@ -16,7 +16,8 @@ ghost use Rattle.mitl.specs.Windows.{sound_window};
 pub trait Admission {
     ghost admitted: { ℕ → ℕ → Bool };
 
-    // Whether the window from a to b is served: always the same reply.
+    // Whether the window from a to b is served: always the same reply. The two numbers go by themselves, as a row of a
+    // table has them: no window is known to be sound before a kind was asked.
     fn admits(a: u32, b: u32) -> bool
         ensures { result ≡ admitted a b };
 }
