@@ -291,7 +291,7 @@ impl Admission for Short {
     }
 }
 
-// The number and place of the refusal, 0 and 0 for a sound table.
+// The number and place of the refusal, 0 and 0 for a sound table, as the cases above have them.
 fn reply<A: Admission>(bytes: &[u8]) -> (u32, u32) {
     match decode::<A>(bytes) {
         Ok(_) => (0, 0),
