@@ -21,6 +21,18 @@ fn set_end(b: u32, operand: bool, n: u32) -> u32
 }
 
 impl Settled {
+    // The content itself where this kind made it, else a new memory. A function with a name: as a conversion it would
+    // hide that content gives way.
+    pub(crate) fn of(content: BitMarks) -> Settled
+        ensures { meaning_of result.content ≡ meaning_of content }
+    {
+        if serves(content.a, content.b) && content.marks.all_below(content.b as usize) {
+            Settled { content }
+        } else {
+            Settled::fresh()
+        }
+    }
+
     // The window from a to b with all marks no.
     pub(crate) fn empty(a: u32, b: u32) -> Settled
         requires { served a b ≡ true }
@@ -97,18 +109,5 @@ impl Settled {
         ensures { result ≡ counted (meaning_of self.now.content) }
     {
         self.content.marks.stretch_count(self.word_count())
-    }
-}
-
-// The content itself where this kind made it, else a new memory.
-impl From<BitMarks> for Settled {
-    ghost from_gives = { λ m s. meaning_of s.content ≡ meaning_of m };
-
-    fn from(content: BitMarks) -> Settled {
-        if serves(content.a, content.b) && content.marks.all_below(content.b as usize) {
-            Settled { content }
-        } else {
-            Settled::fresh()
-        }
     }
 }

@@ -66,22 +66,22 @@ impl WindowMemory for BitMarks {
     }
 
     fn clear(&mut self) {
-        *self = Settled::from(*self).cleared().content;
+        *self = Settled::of(*self).cleared().content;
     }
 
     fn look(&self, d: u32) -> bool {
-        Settled::from(*self).look(d)
+        Settled::of(*self).look(d)
     }
 
     fn take(&mut self, operand: bool, n: u32) {
-        *self = Settled::from(*self).after(operand, n).content;
+        *self = Settled::of(*self).after(operand, n).content;
     }
 
     fn run(&self, operand: bool) -> (bool, Option<u32>) {
-        Settled::from(*self).forecast(operand)
+        Settled::of(*self).forecast(operand)
     }
 
     fn count(&self) -> u32 {
-        Settled::from(*self).count()
+        Settled::of(*self).count()
     }
 }
