@@ -6,8 +6,8 @@ use bit_marks::BitMarks;
 use clock_pairs::ClockPairs;
 use engine::{Inputs, feed};
 use mitl::Row;
-use plan::build;
 use plan::plan::Plan;
+use plan::{build, window_of};
 use record::{Car, Note};
 use std::time::Instant;
 use std::{env, io};
@@ -124,17 +124,9 @@ fn row<M: WindowMemory>(
     println!(rt; "| {kind} | {ticks} | {record} | {notes} | {sum} |")
 }
 
-// The window of a timed row.
-fn window(row: &Row) -> Option<(u32, u32)> {
-    match *row {
-        Row::Once { a, b, .. } | Row::Always { a, b, .. } | Row::Since { a, b, .. } => Some((a, b)),
-        _ => None,
-    }
-}
-
 // Each timed row's memory for its window.
 fn prepare<M: WindowMemory>(plan: &Plan, part: &mut [M]) {
-    let windows = plan.chain().iter().filter_map(window);
+    let windows = plan.chain().iter().filter_map(|row| window_of(*row));
     for (memory, (a, b)) in part.iter_mut().zip(windows) {
         memory.prepare(a, b);
     }

@@ -9,8 +9,8 @@ mod tests {
     use clock_pairs::ClockPairs;
     use engine::{Inputs, feed};
     use mitl::Row;
-    use plan::build;
     use plan::plan::Plan;
+    use plan::{build, window_of};
     use record::{Car, Note};
     use std::process::Abort;
     use std::test::Fail;
@@ -242,20 +242,10 @@ mod tests {
         build(all, [0; 64], rows.len()).ok_or_else(|| Fail::new("no plan"))
     }
 
-    // The window of a timed row.
-    fn window(row: &Row) -> Option<(u32, u32)> {
-        match *row {
-            Row::Once { a, b, .. } | Row::Always { a, b, .. } | Row::Since { a, b, .. } => {
-                Some((a, b))
-            }
-            _ => None,
-        }
-    }
-
     // Before the first tick: the memory of each timed row has its window and no mark.
     fn ready<M: WindowMemory>(rt: &impl Abort, plan: &Plan, part: &mut [M]) {
         assert!(rt; plan.counts().timed <= part.len());
-        let windows = plan.chain().iter().filter_map(window);
+        let windows = plan.chain().iter().filter_map(|row| window_of(*row));
         for (memory, (a, b)) in part.iter_mut().zip(windows) {
             assert!(rt; memory.prepare(a, b));
         }

@@ -52,11 +52,6 @@ pub record Prepared {X : Type 0} (meaning : X → Meaning) (admitted : ℕ → �
   pub ready : Admitted admitted rows → n * timed_rows rows ≤ length ms → (i : ℕ) → i < n → Means meaning rows (part_at (timed_rows rows) i ms') []
   pub past : (k : ℕ) (m : X) → n * timed_rows rows ≤ k → slice_index_or ms' k m ≡ slice_index_or ms k m
 
--- a timed row's window
-abbrev pub WindowOf : Row → Option (ℕ × ℕ) → Type 0
-WindowOf r None = is_timed r ≡ false
-WindowOf r (Some (a, b)) = (is_timed r ≡ true) × (a ≡ row_from r) × (b ≡ row_to r)
-
 -- the part of the car at place i lies within the list, or does not
 abbrev pub Spanned : ℕ → ℕ → ℕ → Option (ℕ × ℕ) → Type 0
 Spanned i n long None = long < i * n + n

@@ -10,11 +10,12 @@ ghost use Rattle.mitl.specs.Rows.{is_timed, timed_before, timed_rows};
 ghost use Rattle.plan.specs.Rows.{rows_of};
 ghost use Rattle.engine.specs.Means.{Means};
 ghost use Rattle.memories.specs.Exact.{AllReadied, CarEmptied, CarTold};
-ghost use Rattle.memories.specs.Parts.{CarCleared, CarFed, CarPrepared, Indexed, Prepared, PreparedAt, Readied, Spanned, WindowOf};
+ghost use Rattle.memories.specs.Parts.{CarCleared, CarFed, CarPrepared, Indexed, Prepared, PreparedAt, Readied, Spanned};
 
 use engine::{Fed, Inputs, clear, feed};
 use mitl::Row;
 use plan::plan::Plan;
+use plan::window_of;
 use record::Note;
 use window::{Admission, WindowMemory};
 
@@ -23,16 +24,6 @@ use window::{Admission, WindowMemory};
 pub struct Shown {
     pub mark: bool,
     pub count: u32,
-}
-
-// The window of a timed row.
-fn window_of(row: Row) -> Option<(u32, u32)>
-    ensures { WindowOf row result }
-{
-    match row {
-        Row::Once { a, b, .. } | Row::Always { a, b, .. } | Row::Since { a, b, .. } => Some((a, b)),
-        _ => None,
-    }
 }
 
 // Where the part of the car at this place begins and ends, if the list is that long. Each caller lends the part itself:

@@ -3,3 +3,4 @@ pub mod Rows
 pub mod Totals
 pub mod Places
 pub mod Built
+pub mod Windows

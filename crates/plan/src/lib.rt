@@ -12,6 +12,7 @@ ghost use Rattle.plan.specs.Places.{place_among_lem, FirstPlace};
 ghost use Rattle.plan.specs.Rows.{rows_of, numbers_of};
 ghost use Rattle.plan.specs.Sound.{is_a_rule, operand_ok, row_ok, sound_rows};
 ghost use Rattle.plan.specs.Totals.{counts_of};
+ghost use Rattle.plan.specs.Windows.{WindowOf};
 
 pub mod plan;
 
@@ -51,6 +52,16 @@ pub fn is_timed(row: Row) -> bool
         row,
         Row::Once { .. } | Row::Always { .. } | Row::Since { .. }
     )
+}
+
+// The window of a timed row.
+pub fn window_of(row: Row) -> Option<(u32, u32)>
+    ensures { WindowOf row result }
+{
+    match row {
+        Row::Once { a, b, .. } | Row::Always { a, b, .. } | Row::Since { a, b, .. } => Some((a, b)),
+        _ => None,
+    }
 }
 
 // Whether a table may have the window from a to b.
