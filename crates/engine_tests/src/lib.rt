@@ -283,7 +283,7 @@ mod tests {
         assert_eq!(rt; fed.notes, notes.len());
         let mut taken = 0u32;
         for (place, (word, ticks)) in places.iter().zip(notes) {
-            assert_eq!(rt; place.car.number, CAR.number);
+            assert_eq!(rt; place.car, CAR);
             assert_eq!(rt; (place.word, place.ticks), (*word, *ticks));
             taken = taken.saturating_add(*ticks);
         }
