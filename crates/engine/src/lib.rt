@@ -32,7 +32,7 @@ pub struct Inputs {
     pub ticks: u32,
 }
 
-// What feeding replies: the notes written and the ticks that they cover.
+// What feeding replies: how many notes were written, into the caller's list, and the ticks that they cover.
 #[derive(Clone, Copy)]
 pub struct Fed {
     pub notes: usize,

@@ -46,6 +46,7 @@ fn main(rt: HostRuntime) -> io::Result<()> {
     }
 }
 
+// Whether the word `run` is given. The two benches have no crate in common to ask it in.
 fn is_asked(rt: &HostRuntime) -> io::Result<bool> {
     Ok(env::args(rt)?.skip(1).any(|word| word.as_str() == "run"))
 }

@@ -15,7 +15,7 @@ ghost use Rattle.record.specs.Replies.{refusal_of, Apart, Checked, CheckedFields
 use refusal::Refusal;
 use std::fmt;
 
-// The longest length of a record: a day of ticks.
+// The longest length of a record: a day of ticks. (That a window ends within a day is a rule of tables.)
 const DAY: u32 = 864_000;
 
 // A car's identity.

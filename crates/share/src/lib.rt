@@ -162,8 +162,8 @@ pub fn share_of(notes: &[Note], car: Car, rule: u8) -> Result<Share, ShareFault>
 }
 
 impl BusiestRule {
-    // The other rule, if its figure is greater. Not an order of rules: the library's `max_by_key` would take the last
-    // among equals, and the lowest is wanted.
+    // The other rule, if its figure is greater. The library's `max_by_key`, over the rules from the last on, would answer
+    // an Option of what is never missing.
     fn or(self, other: BusiestRule) -> BusiestRule
         ensures { Busier self other result }
     {
