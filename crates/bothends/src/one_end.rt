@@ -10,6 +10,7 @@ use window::WindowMemory;
 // Fewer places than some records have notes.
 const PLACES: usize = 2;
 
+// What stands in a place until a note is written to it: one of the car, as all notes here are.
 const NOTE: Note = Note {
     car: CAR,
     word: 0,

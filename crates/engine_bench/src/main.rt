@@ -25,6 +25,7 @@ const PLACES: usize = 16;
 
 const CAR: Car = Car { number: 1 };
 
+// What stands in a place until a note is written to it.
 const NOTE: Note = Note {
     car: CAR,
     word: 0,

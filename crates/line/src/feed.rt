@@ -17,6 +17,7 @@ use window::WindowMemory;
 // The places for notes that a record, or the rest of one, is fed with.
 const PLACES: usize = 8;
 
+// What stands in a place until a note is written to it.
 const NO_NOTE: Note = Note {
     car: Car::NONE,
     word: 0,
