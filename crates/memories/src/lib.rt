@@ -26,8 +26,9 @@ pub struct Shown {
     pub count: u32,
 }
 
-// Where the part of the car at this place begins and ends, if the list is that long. Each caller lends the part itself:
-// handed in as a closure, a call that writes notes would leave nothing known of them where the list is too short.
+// Where the part of the car at this place begins and ends, if the list is that long. Each caller lends the part
+// itself: handed in as a closure, a call that writes notes would leave nothing known of them where the list is too
+// short.
 fn span(plan: &Plan, at: usize, len: usize) -> Option<(usize, usize)>
     ensures { Spanned at (timed_rows (rows_of plan.now)) len result }
 {
@@ -47,6 +48,7 @@ fn prepare_at<M: WindowMemory>(part: &mut [M], at: usize, a: u32, b: u32)
 }
 
 // The memory at this place is prepared for a row, if it is timed: the place past it.
+// The place is required to be early, so that the one past it fits: a plan has at most 64 rows.
 fn prepare_row<M: WindowMemory>(row: Row, part: &mut [M], at: usize) -> usize
     requires { at < 64 }
     ensures behind { result ≡ (if is_timed row then 1 else 0) + at }
@@ -63,6 +65,7 @@ fn prepare_row<M: WindowMemory>(row: Row, part: &mut [M], at: usize) -> usize
 }
 
 // A memory for each timed row.
+// Tried over `part.iter_mut().zip(..)`; its proof did not close: past a zip only the number of memories is known.
 #[tactic(auto, using(engine::proofs::Plans::given_early, crate::proofs::Readied::readied_none))]
 fn prepare_part<M: WindowMemory>(plan: &Plan, part: &mut [M])
     ensures { Readied M.meaning M.admitted (rows_of plan.now) (length (rows_of plan.now)) part.old part.new }
@@ -116,7 +119,7 @@ fn prepare_first<M: WindowMemory>(plan: &Plan, cars: usize, memories: &mut [M])
     ensures prepared { Prepared M.meaning M.admitted (rows_of plan.now) cars memories.old memories.new }
     ensures exactly { AllReadied M.meaning M.admitted (rows_of plan.now) cars memories.old memories.new }
 {
-    // by places, since a part may be empty or lie past the list's end: chunks of the list are neither
+    // by places: a plan without a timed row has empty parts, and the library's chunks have a size above 0
     for i in 0..cars {
         prepare_car(plan, i, memories);
     }
