@@ -40,19 +40,17 @@ fn is_told_by_car(letter: char) -> bool
 
 impl<'a, M: WindowMemory, R: Read + Drop, W: Write + Drop> Line<'a, M, R, W> {
     // Sends a line of text.
-    pub fn tell(&mut self, text: &Text) -> io::Result<()> {
-        text.send(self.wire.out())
+    pub fn tell(&mut self, text: Text) -> io::Result<()> {
+        write!(self.wire.out(), "{text}")
     }
 
     // The lines for what was fed: one for each note.
     fn tell_fed(&mut self, fed: Fed, part: Record, notes: &[Note]) -> io::Result<()> {
         if is_told_by_car(part.letter) {
-            return self.tell(&Text::car(part.car));
+            return self.tell(Text::Car(part.car));
         }
-        let mut line = Text::new();
         for note in notes.iter().take(fed.notes) {
-            line.set_note(*note);
-            self.tell(&line)?;
+            self.tell(Text::Note(*note))?;
         }
         Ok(())
     }
@@ -77,7 +75,7 @@ impl<'a, M: WindowMemory, R: Read + Drop, W: Write + Drop> Line<'a, M, R, W> {
                 Ok(rest_of(part, fed.ticks))
             }
             Err(fault) => {
-                self.tell(&Text::refusal(fault.into()))?;
+                self.tell(Text::Refusal(fault.into()))?;
                 Ok(None)
             }
         }
@@ -89,7 +87,7 @@ impl<'a, M: WindowMemory, R: Read + Drop, W: Write + Drop> Line<'a, M, R, W> {
         while let Some(rest) = left {
             let mut part = [0; 12];
             if let Err(fault) = rest.write(&mut part) {
-                return self.tell(&Text::refusal(fault.into()));
+                return self.tell(Text::Refusal(fault.into()));
             }
             left = self.serve_part(&part)?;
         }

@@ -127,10 +127,10 @@ pub fn serve<M: WindowMemory, R: Read + Drop, W: Write + Drop>(
     };
     match line.set()? {
         Ok(counts) => {
-            line.tell(&Text::counts(counts))?;
+            line.tell(Text::Counts(counts))?;
             line.serve_records()?;
         }
-        Err(fault) => line.tell(&Text::refusal(fault.into()))?,
+        Err(fault) => line.tell(Text::Refusal(fault.into()))?,
     }
     line.wire.close()
 }
