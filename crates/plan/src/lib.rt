@@ -79,22 +79,22 @@ fn operand_fits(before: &[Row], l: u8) -> bool
 }
 
 // Whether a row may stand right after these.
-fn row_fits(before: &[Row], row: Row) -> bool
-    ensures { result ≡ row_ok before.now (length before.now) row }
+fn row_fits(before: &[Row], row: &Row) -> bool
+    ensures { result ≡ row_ok before.now (length before.now) row.now }
 {
     match row {
-        Row::Input { bit } => bit < 32,
-        Row::Not { left } => operand_fits(before, left),
+        Row::Input { bit } => *bit < 32,
+        Row::Not { left } => operand_fits(before, *left),
         Row::And { left, right } | Row::Or { left, right } => {
-            operand_fits(before, left) && operand_fits(before, right)
+            operand_fits(before, *left) && operand_fits(before, *right)
         }
         Row::Once { left, a, b } | Row::Always { left, a, b } => {
-            operand_fits(before, left) && is_sound_window(a, b)
+            operand_fits(before, *left) && is_sound_window(*a, *b)
         }
         Row::Since { left, right, a, b } => {
-            operand_fits(before, left) && operand_fits(before, right) && is_sound_window(a, b)
+            operand_fits(before, *left) && operand_fits(before, *right) && is_sound_window(*a, *b)
         }
-        Row::Rule { number, left } => number < 16 && operand_fits(before, left),
+        Row::Rule { number, left } => *number < 16 && operand_fits(before, *left),
     }
 }
 
@@ -113,7 +113,7 @@ fn each_fits(chain: &[Row]) -> bool
     chain
         .iter()
         .enumerate()
-        .all(|(k, row)| row_fits(&chain[..k], *row))
+        .all(|(k, row)| row_fits(&chain[..k], row))
 }
 
 // Whether one of the rows is a rule.
@@ -155,11 +155,18 @@ pub fn place_among(numbers: &[u8], number: u8) -> Option<usize>
     numbers.iter().position(|n| *n == number)
 }
 
+// How many of these rows are rules.
+fn rules_among(rows: &[Row]) -> usize
+    ensures { result ≡ count_by is_a_rule rows.now }
+{
+    rows.iter().map(|row| usize::from(is_rule(*row))).sum()
+}
+
 // How many of these rows are timed.
 fn timed_among(rows: &[Row]) -> usize
     ensures { result ≡ count_by is_timed rows.now }
 {
-    rows.iter().filter(|row| is_timed(**row)).count()
+    rows.iter().map(|row| usize::from(is_timed(*row))).sum()
 }
 
 impl Plan {
@@ -178,7 +185,7 @@ impl Plan {
         let chain = self.chain();
         Counts {
             rows: chain.len(),
-            rules: chain.iter().filter(|row| is_rule(**row)).count(),
+            rules: rules_among(chain),
             timed: timed_among(chain),
         }
     }
