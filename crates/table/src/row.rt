@@ -212,13 +212,22 @@ impl Entry {
         }
     }
 
-    // What it says, if its operands are rows that were taken and are no rules.
+    // What it says, if its operands are rows that were taken and are no rules. An operand is looked for only where the
+    // letter uses it: one that is not used is zero, the number of no row, and would be looked for along the whole chain.
     fn meant(self, draft: &Draft) -> Option<Row>
         ensures { Meant draft.now self result }
     {
         let Fields { number, a, b, .. } = self.fields;
-        let left = draft.operand(self.fields.left);
-        let right = draft.operand(self.fields.right);
+        let left = if self.letter.uses_left() {
+            draft.operand(self.fields.left)
+        } else {
+            None
+        };
+        let right = if self.letter.uses_right() {
+            draft.operand(self.fields.right)
+        } else {
+            None
+        };
         let row = match self.letter {
             Letter::P => Row::Input { bit: number },
             Letter::N => Row::Not { left: left? },
