@@ -72,11 +72,13 @@ fn ticks_where<F: Fn(&Note) -> bool>(notes: &[Note], counts: F) -> u64
     ensures value { (test : Note → Bool) → ((n : Note) (b : Bool) → FnReturnsAt F.Fn counts n b → b ≡ test n) → result ≡ ticks_where test notes.now }
     ensures bound { result < 2 ^ 44 }
 {
-    notes
-        .iter()
-        .filter(|note| counts(note))
-        .map(|note| u64::from(note.ticks))
-        .sum()
+    let mut ticks = 0;
+    for note in notes {
+        if counts(note) {
+            ticks += u64::from(note.ticks);
+        }
+    }
+    ticks
 }
 
 // A part of a whole in thousandths.
