@@ -19,12 +19,12 @@ fn print_damage(rt: &HostRuntime, pieces: &[Piece]) -> io::Result<()> {
     for (i, piece) in pieces.iter().enumerate() {
         let number = i + 1;
         match *piece {
-            Err(Damage::BadLine) => println!(rt; "damaged line {number}")?,
-            Err(Damage::BadRecord(fault)) => {
+            Err(Some(Damage::BadLine)) => println!(rt; "damaged line {number}")?,
+            Err(Some(Damage::BadRecord(fault))) => {
                 let refusal = Refusal::from(fault);
                 println!(rt; "damaged record {number} X {refusal}")?;
             }
-            Ok(_) => {}
+            Ok(_) | Err(None) => {}
         }
     }
     Ok(())

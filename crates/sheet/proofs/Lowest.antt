@@ -1,8 +1,12 @@
 -- The lowest car above a number. Assumes nothing.
-use Rattle.std.proofs.Common.{◌≡◌, ℕ, ◌<◌, ◌≤◌, Bool, true, false, cond, ltb, ◌⊎◌, List, [], ◌∷◌, map, filter, fold, Some, None, Option, Ordering, sym, refl, subst, inl, inr, ⊎_elim, arith, ltb-true, ltb-false}
-use Rattle.std.specs.List.{All, Contains, reduce}
-use Rattle.std.specs.Ordering.{MatchOrdering, min_by_ordering}
-use Rattle.std.specs.declared.cmp.Ordering.TheVariants.{Less, Equal, Greater}
+use Rattle.std.proofs.Common.{◌≡◌, ℕ, ◌<◌, ◌≤◌, min, Bool, true, false, cond, ltb, ◌⊎◌, List, [], ◌∷◌, map, filter, fold, Some, None, Option, MatchOption, ap, sym, refl, subst, inl, inr, ⊎_elim, arith, ltb-true, ltb-false}
+use Rattle.std.specs.Fn.{Called}
+use Rattle.std.specs.Iterator.{Drains, ReducesItems}
+use Rattle.std.specs.List.{All, Contains, FoldsTo, reduce}
+use denote.Param.Members.{Mut}
+use Rattle.std.proofs.lemmas.Bool.{cases_lt}
+use Rattle.std.proofs.lemmas.Iterator.{YieldsList}
+use Rattle.std.proofs.lemmas.Iterator.Consumers.{reduce_from_yields_List}
 use Rattle.std.proofs.lemmas.List.Elements.{All-nil, All-cons, Contains-get_or, Contains-append_right}
 use Rattle.record.specs.declared.Car.{Car}
 use Rattle.record.specs.declared.Note.{Note}
@@ -12,10 +16,32 @@ use Rattle.sheet.specs.Rows.{Next}
 abbrev Picks : Car → Car → Car → Type 0
 Picks p z c = ((c ≡ p) × (p.number ≤ z.number)) ⊎ ((c ≡ z) × (z.number ≤ p.number))
 
-pub picked : (o : Ordering) (p z : Car) → MatchOrdering o (p.number < z.number) (p.number ≡ z.number) (z.number < p.number) → Picks p z (min_by_ordering o p z)
-picked Less p z h = inl (refl, omega arith)
-picked Equal p z h = inl (refl, omega arith)
-picked Greater p z h = inr (refl, omega arith)
+abbrev car_of : ℕ → Car
+car_of k = record { number = k }
+
+-- of two cars the lower
+abbrev pub lower_of : Car → Car → Car
+lower_of p z = car_of (min p.number z.number)
+
+pub picked : (p z : Car) → Picks p z (lower_of p z)
+picked p z =
+    ⊎_elim (λ (l : p.number < z.number). let e : min p.number z.number ≡ p.number = omega arith in inl (ap car_of e, omega arith))
+    (λ (l : z.number ≤ p.number). let e : min p.number z.number ≡ z.number = omega arith in inr (ap car_of e, omega arith))
+    (cases_lt p.number z.number)
+
+-- what a call that gives the lower of two cars makes of a list
+module _ {F : Type 0} (g : Mut F (Car × (Car × Unit {0})) Car) (lowers : (f : F) (p z c : Car) (f' : F) → Called g f (p, (z, tt)) c f' → c.number ≡ min p.number z.number) where
+  folded : (f f' : F) (x y : Car) (xs : List Car) → FoldsTo {P = F × Car} (λ p z q. Called g p.0 (p.1, (z, tt)) q.1 q.0) (f, x) xs (f', y) → FoldsTo (λ p z c. c ≡ lower_of p z) x xs y
+  folded f f' x y [] e = ap (λ p. p.1) e
+  folded f f' x y (z ∷ xs) (j, turn, more) = (j.1, ap car_of (lowers f x z j.1 j.0 turn), folded j.0 f' j.1 y xs more)
+
+  module _ {S : Type 0} (steps : S → Option Car → S → Type 0) (s : S) (f : F) where
+    turns : (r : Option Car) → ReducesItems steps g s f r → MatchOption r (Drains steps s []) (λ y. (x : Car) × (xs : List Car) × Drains steps s (x ∷ xs) × FoldsTo (λ p z c. c ≡ lower_of p z) x xs y)
+    turns None none = none
+    turns (Some y) (x, xs, f', drained, ran) = (x, xs, drained, folded f f' x y xs ran)
+
+    pub lower_reduced : {all : List Car} (r : Option Car) → ReducesItems steps g s f r → YieldsList steps (λ x. x) s all → r ≡ reduce lower_of all
+    lower_reduced r ran given = reduce_from_yields_List lower_of s r (turns r ran) given
 
 abbrev cars : List Note → List Car
 cars ns = map (λ m. m.car) ns

@@ -15,9 +15,9 @@ use Rattle.sheet.specs.declared.Damage.TheVariants.{BadLine, BadRecord}
 abbrev pub note_of : Record → Note
 note_of r = record { car = r.car; word = r.word; ticks = r.ticks }
 
--- what a piece of the input tells of: a note, or none, or what is damaged
+-- what a piece of the input tells of: a note, or else what is damaged, which is nothing in a piece without a verdict
 abbrev pub Found : Type 0
-Found = Result (Option Note) Damage
+Found = Result Note (Option Damage)
 
 -- A verdict record tells of its note, and any other of none.
 abbrev pub OfRecord : Record → Option Note → Type 0
@@ -26,9 +26,10 @@ OfRecord r None = is_V r.letter ≡ false
 
 -- Bytes that are a record tell what it tells of; else the refusal stands.
 abbrev pub RecordPiece : List ℕ → Found → Type 0
-RecordPiece bytes (Ok told) = (first_fault (reading_faults bytes) ≡ None) × OfRecord (fields_at bytes) told
-RecordPiece bytes (Err BadLine) = ⊥
-RecordPiece bytes (Err (BadRecord e)) = first_fault (reading_faults bytes) ≡ Some (refusal_of e)
+RecordPiece bytes (Ok n) = (first_fault (reading_faults bytes) ≡ None) × OfRecord (fields_at bytes) (Some n)
+RecordPiece bytes (Err None) = (first_fault (reading_faults bytes) ≡ None) × OfRecord (fields_at bytes) None
+RecordPiece bytes (Err (Some BadLine)) = ⊥
+RecordPiece bytes (Err (Some (BadRecord e))) = first_fault (reading_faults bytes) ≡ Some (refusal_of e)
 
 -- a number as it is written: decimal digits, after a plus sign or none
 abbrev pub Number : ℕ → List ℕ → Type 0
@@ -80,10 +81,10 @@ passed_over (b ∷ bs) = b == 84 || (b == 75 || b == 88)
 
 -- A line that is not passed over tells of its note, or is damaged where it is no note's line.
 abbrev pub LinePiece : List ℕ → Found → Type 0
-LinePiece line (Ok (Some n)) = (passed_over line ≡ false) × Told line (Some n)
-LinePiece line (Ok None) = passed_over line ≡ true
-LinePiece line (Err BadLine) = (passed_over line ≡ false) × Told line None
-LinePiece line (Err (BadRecord e)) = ⊥
+LinePiece line (Ok n) = (passed_over line ≡ false) × Told line (Some n)
+LinePiece line (Err None) = passed_over line ≡ true
+LinePiece line (Err (Some BadLine)) = (passed_over line ≡ false) × Told line None
+LinePiece line (Err (Some (BadRecord e))) = ⊥
 
 -- a line without its line feed, if it ends in one
 abbrev pub Unended : List ℕ → List ℕ → Type 0
@@ -116,7 +117,7 @@ Pieces bytes ps = MatchBool (second_zero bytes) (Records bytes ps) (Lines bytes 
 
 -- the note that a piece tells of
 abbrev pub piece_note : Found → Option Note
-piece_note (Ok told) = told
+piece_note (Ok n) = Some n
 piece_note (Err e) = None
 
 -- the notes that pieces tell of, in their order

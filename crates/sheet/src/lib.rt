@@ -2,10 +2,10 @@
 
 #![tactic(auto)]
 
-ghost use Rattle.std.specs.Prelude.{◌≡◌, true, IfOk, filter};
+ghost use Rattle.std.specs.Prelude.{◌≡◌, true, min, IfOk, filter};
 ghost use Rattle.record.specs.Layout.{word_ok};
 ghost use Rattle.share.specs.Ticks.{of_car};
-ghost use Rattle.sheet.specs.Pieces.{OfRecord, RecordPiece, AfterLetter, Fields, Told, passed_over, LinePiece, Unended, Lines, Records, second_zero, Pieces, all_notes};
+ghost use Rattle.sheet.specs.Pieces.{OfRecord, RecordPiece, AfterLetter, Fields, Told, passed_over, LinePiece, Unended, Lines, Records, second_zero, Pieces, piece_note, all_notes};
 ghost use Rattle.sheet.specs.declared.Damage.TheVariants.{BadRecord};
 ghost use Rattle.sheet.specs.Rows.{Rowed, SameShares, Next};
 
@@ -32,8 +32,9 @@ impl From<RecordFault> for Damage {
     }
 }
 
-// A piece of the input, a line or a record: its verdict's note, or none if it has no verdict.
-pub type Piece = Result<Option<Note>, Damage>;
+// A piece of the input, a line or a record: its verdict's note, or else its damage, which is none in a sound piece
+// without a verdict. An Option of the note beside the damage would take a third more room.
+pub type Piece = Result<Note, Option<Damage>>;
 
 // A car's shares, each rule's in its place.
 #[derive(Clone, Copy)]
@@ -64,8 +65,8 @@ fn verdict_in(sent: Record) -> Option<Note>
 fn record_piece(bytes: &[u8]) -> Piece
     ensures { RecordPiece bytes.now result }
 {
-    let sent = Record::read(bytes)?;
-    Ok(verdict_in(sent))
+    let sent = Record::read(bytes).map_err(|fault| Some(fault.into()))?;
+    verdict_in(sent).ok_or(None)
 }
 
 // What follows V and a space.
@@ -123,9 +124,9 @@ fn line_piece(line: &[u8]) -> Piece
     ensures { LinePiece line.now result }
 {
     if is_passed_over(line) {
-        return Ok(None);
+        return Err(None);
     }
-    told_by(line).map(Some).ok_or(Damage::BadLine)
+    told_by(line).ok_or(Some(Damage::BadLine))
 }
 
 // A line's bytes without its end.
@@ -173,44 +174,59 @@ pub fn pieces(heap: Global, input: &[u8]) -> Result<Vec<Piece>, AllocError>
     }
 }
 
+// The note that a piece tells of.
+fn note_told(piece: &Piece) -> Option<Note>
+    ensures { result ≡ piece_note piece.now }
+{
+    piece.ok()
+}
+
 // The notes that the pieces tell of, in their order.
 pub fn notes_of(heap: Global, pieces: &[Piece]) -> Result<Vec<Note>, AllocError>
     ensures { IfOk result (λ v. v.items ≡ all_notes pieces.now) }
 {
-    pieces
-        .iter()
-        .filter_map(|piece| piece.ok().flatten())
-        .collect(heap)
+    let mut notes = Vec::new(heap);
+    for piece in pieces {
+        if let Some(note) = note_told(piece) {
+            notes.push(note)?;
+        }
+    }
+    Ok(notes)
 }
 
-// The lowest car of the notes that is above a number. It carries the proof of `next_car`, which is thin, so that a
-// wrong one fails at its own place.
-fn lowest_above(notes: &[Note], number: u16) -> Option<Car>
-    ensures { Next notes.now number result }
+// The lower of two cars.
+fn lower(car: Car, other: Car) -> Car
+    ensures { result.number ≡ min car.number other.number }
 {
-    notes
-        .iter()
-        .map(|note| note.car)
-        .filter(|car| car.number > number)
-        .min()
+    if other.number < car.number {
+        other
+    } else {
+        car
+    }
 }
 
 // The lowest car above a number: a number and not a car, since 0 is no car and below all.
 pub fn next_car(notes: &[Note], above: u16) -> Option<Car>
     ensures { Next notes.now above result }
 {
-    lowest_above(notes, above)
+    notes
+        .iter()
+        .map(|note| note.car)
+        .filter(|car| car.number > above)
+        .reduce(lower)
 }
 
 // The notes of a car, in their order. `own_notes` says more of them, and its proof is of that alone.
 fn notes_by(heap: Global, notes: &[Note], car: Car) -> Result<Vec<Note>, AllocError>
     ensures { IfOk result (λ v. v.items ≡ filter (of_car car) notes.now) }
 {
-    notes
-        .iter()
-        .filter(|note| note.car == car)
-        .copied()
-        .collect(heap)
+    let mut own = Vec::new(heap);
+    for note in notes {
+        if note.car == car {
+            own.push(*note)?;
+        }
+    }
+    Ok(own)
 }
 
 // The car's own notes, in their order, which have the same shares for it.
@@ -253,10 +269,10 @@ mod tests {
         let mut marks = String::new(heap);
         for piece in pieces(heap, input)? {
             marks.push(match piece {
-                Ok(Some(_)) => 'V',
-                Ok(None) => '-',
-                Err(Damage::BadLine) => '?',
-                Err(Damage::BadRecord(_)) => '!',
+                Ok(_) => 'V',
+                Err(None) => '-',
+                Err(Some(Damage::BadLine)) => '?',
+                Err(Some(Damage::BadRecord(_))) => '!',
             })?;
         }
         Ok(marks)
