@@ -3,7 +3,6 @@ ghost use Rattle.sharesheet.specs.Lines.{Lined};
 
 use record::{Car, Note};
 use refusal::Refusal;
-use share::ShareFault;
 use sheet::Row;
 use std::fmt;
 
@@ -25,7 +24,7 @@ impl fmt::Display for Head {
 #[derive(Clone, Copy)]
 pub struct Line {
     car: Car,
-    row: Result<Row, ShareFault>,
+    row: Result<Row, Refusal>,
 }
 
 impl Line {
@@ -35,7 +34,7 @@ impl Line {
     {
         Line {
             car,
-            row: sheet::row_of(notes, car),
+            row: sheet::row_of(notes, car).map_err(Refusal::from),
         }
     }
 }
@@ -44,9 +43,8 @@ impl fmt::Display for Line {
     fn fmt<W: fmt::Write>(&self, f: &mut fmt::Formatter<W>) -> fmt::Result {
         match self.row {
             Ok(row) => write_row(&row, f),
-            Err(fault) => {
+            Err(refusal) => {
                 let number = self.car.number;
-                let refusal = Refusal::from(fault);
                 write!(f, "{number:>5} X {refusal}")
             }
         }
