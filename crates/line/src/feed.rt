@@ -41,7 +41,7 @@ fn is_told_by_car(letter: char) -> bool
 impl<'a, M: WindowMemory, R: Read + Drop, W: Write + Drop> Line<'a, M, R, W> {
     // Sends a line of text.
     pub fn tell(&mut self, text: Text) -> io::Result<()> {
-        write!(self.wire.out(), "{text}")
+        self.wire.out().write_all(text.laid_out().bytes())
     }
 
     // The lines for what was fed: one for each note.
